@@ -1,0 +1,42 @@
+-- What a test that passed says: conjunctions, negations, equality of integers, and a choice made by a test.
+-- Assumes nothing.
+use mathlib.Core.Path.{_≡_, ap, subst}
+use mathlib.Core.Logic.{_↔_, _⊎_, inl, inr}
+use mathlib.Core.Bool.{Bool, true, false, not, _&&_, _||_, cond}
+use Prim.Native.Nat.{ℕ}
+use lib.Dec.{T, T-not, not-T, eqb→eq, eqb-refl}
+use lib.IntN.{ℤ, pos, negsuc}
+use Rattle.whole.specs.Integers.{eqZ}
+
+pub T-and : (a b : Bool) → T (a && b) ↔ (T a × T b)
+T-and true b = (λ t. (tt, t), λ h. h .1)
+T-and false b = (λ t. absurd t, λ h. h .0)
+
+pub T-or : (a b : Bool) → T (a || b) ↔ (T a ⊎ T b)
+T-or true b = (λ t. inl tt, λ h. tt)
+T-or false b = (λ t. inr t, λ h. elim h [ inl k ↦ absurd k | inr k ↦ k ])
+
+pub T-no : (a : Bool) → T (not a) ↔ (¬ T a)
+T-no a = (T-not a, not-T a)
+
+pub T-dec : (b : Bool) → Dec (T b)
+T-dec true = yes tt
+T-dec false = no (λ h. h)
+
+-- a choice by a test, with what the test said
+pub cond-ind {ℓ ℓ′} : {A : Type ℓ} (c : Bool) (x y : A) (P : A → Type ℓ′) → (T c → P x) → (T (not c) → P y) → P (cond c x y)
+cond-ind true x y P f g = f tt
+cond-ind false x y P f g = g tt
+
+pub eqZ→eq : (a b : ℤ) → T (eqZ a b) → a ≡ b
+eqZ→eq (pos a) (pos b) t = ap pos (eqb→eq a b t)
+eqZ→eq (pos a) (negsuc b) t = absurd t
+eqZ→eq (negsuc a) (pos b) t = absurd t
+eqZ→eq (negsuc a) (negsuc b) t = ap negsuc (eqb→eq a b t)
+
+eqZ-refl : (a : ℤ) → T (eqZ a a)
+eqZ-refl (pos a) = eqb-refl a
+eqZ-refl (negsuc a) = eqb-refl a
+
+pub eq→eqZ : (a b : ℤ) → a ≡ b → T (eqZ a b)
+eq→eqZ a b e = subst (λ z. T (eqZ a z)) e (eqZ-refl a)

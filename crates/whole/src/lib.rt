@@ -1,0 +1,1 @@
+// Whole numbers: the laws of specs/ and proofs/, and the two functions that the steps call.
