@@ -1,0 +1,15 @@
+pub mod Sum
+pub mod Rule
+pub mod Result
+pub mod Table
+pub mod Decode
+pub mod Fold
+pub mod Chosen
+pub mod Literals
+pub mod Steps
+pub mod Eliminate
+pub mod LeaveOff
+pub mod Match
+pub mod Answer
+pub mod Calls
+pub mod Laws
