@@ -1,1 +1,4 @@
 pub mod Refusals
+pub mod Sums
+pub mod Meaning
+pub mod Folding

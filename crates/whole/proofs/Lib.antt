@@ -1,4 +1,5 @@
 pub mod Tests
+pub mod Lists
 pub mod Difference
 pub mod Ring
 pub mod Linear

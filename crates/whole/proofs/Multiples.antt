@@ -11,6 +11,7 @@ use Rattle.whole.specs.Multiples.{GreatestCommonDivisor, LeastCommonMult
 use Rattle.whole.proofs.Difference.{zz, z1, z3, z4, z5}
 use Rattle.whole.proofs.Order.{*ℤ-≡}
 use Rattle.whole.proofs.Ring.{rr, ring, r4, r6}
+use Rattle.whole.proofs.Lists.{All, all-imp}
 use Rattle.whole.proofs.Divisibility.{divides-zero, divides-self, divides-times, divides-add, divides-mul, divides-trans, divides-test}
 
 -- ---- the greatest common divisor
@@ -171,26 +172,14 @@ lcm-pos {a} {b} h k = mul-pos h (quotient-pos k (gcd-bezout a b .right))
 
 -- ---- the least common multiple of a list
 
--- every number of a list is positive; divides P
-unfoldable pub AllPositive : List ℕ → Type 0
-AllPositive [] = Unit {0}
-AllPositive (a ∷ l) = (0 < a) × AllPositive l
-
-unfoldable pub AllDivide : ℕ → List ℕ → Type 0
-AllDivide P [] = Unit {0}
-AllDivide P (a ∷ l) = Divides a (pos P) × AllDivide P l
-
-pub lcms-pos : (l : List ℕ) → AllPositive l → 0 < lcms l
-unfolding AllPositive lcms
+pub lcms-pos : (l : List ℕ) → All (λ a. 0 < a) l → 0 < lcms l
+unfolding All lcms
 lcms-pos [] h = omega arith
 lcms-pos (a ∷ l) h = lcm-pos (h .0) (lcms-pos l (h .1))
 
-all-divide-more : {P Q : ℕ} (l : List ℕ) → Divides P (pos Q) → AllDivide P l → AllDivide Q l
-unfolding AllDivide
-all-divide-more [] p h = tt
-all-divide-more (a ∷ l) p h = (divides-trans (h .0) p, all-divide-more l p (h .1))
-
-pub lcms-divided : (l : List ℕ) → AllDivide (lcms l) l
-unfolding AllDivide lcms
+pub lcms-divided : (l : List ℕ) → All (λ a. Divides a (pos (lcms l))) l
+unfolding All lcms
 lcms-divided [] = tt
-lcms-divided (a ∷ l) = (lcm-is a (lcms l) .left, all-divide-more l (lcm-is a (lcms l) .right) (lcms-divided l))
+lcms-divided (a ∷ l) =
+    let m = lcm-is a (lcms l) in
+    (m .left, all-imp (λ b d. divides-trans d (m .right)) l (lcms-divided l))
