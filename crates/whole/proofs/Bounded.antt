@@ -1,4 +1,4 @@
--- The least common multiple up to a limit: the answers that a greatest common divisor leads to, and that no others are right.
+-- The least common multiple up to a limit: the answer that a greatest common divisor leads to, and that no other is right.
 -- Assumes nothing.
 use mathlib.Core.Path.{_≡_, refl, _∙_, ap, subst}
 use Prim.Native.Nat.{ℕ, _*_, _/_, _≤_, _<_}
@@ -22,7 +22,8 @@ module _ (a b limit : ℕ) where
 -- the multiple is a·(b/g), also where a and b are 0 and so is g
 pub multiple-by : {a b g : ℕ} → GreatestCommonDivisor a b g → LeastCommonMultiple a b (a * (b / g))
 unfolding lcm
-multiple-by {a} {b} h = subst (λ (g : ℕ). LeastCommonMultiple a b (a * (b / g))) (gcd-unique (gcd-is a b) h) (lcm-is a b)
+multiple-by {a} {b} h =
+    subst (λ (g : ℕ). LeastCommonMultiple a b (a * (b / g))) (gcd-unique (gcd-is a b) h) (lcm-is a b)
 
 module _ {a b g : ℕ} (limit : ℕ) (h : GreatestCommonDivisor a b g) where
   pub multiple-zero : g ≡ 0 → BoundedMultiple a b limit (Least 0)
@@ -40,7 +41,7 @@ module _ {a b g : ℕ} (limit : ℕ) (h : GreatestCommonDivisor a b g) where
   unfolding BoundedMultiple
   multiple-over k = λ m i. subst (λ (n : ℕ). limit < n) (lcm-unique (multiple-by h) i) k
 
--- it fits twice the width of a and b
+-- of two numbers of 32 bits it fits 64
 pub multiple-fits : (a b g : ℕ) → a < 4294967296 → b < 4294967296 → a * (b / g) < 18446744073709551616
 multiple-fits a b g h k =
     let first : a ≤ 4294967295 = omega arith in

@@ -1,4 +1,4 @@
--- Pairs of numbers with the same common divisors: what an algorithm for the greatest one keeps from each pair to the next.
+-- Pairs of numbers with the same common divisors: what an algorithm for the greatest keeps from each pair to the next.
 -- Assumes nothing.
 use mathlib.Core.Path.{_≡_, subst, subst⁻¹}
 use Prim.Native.Nat.{ℕ, _+_, _*_, _/_, _%_}
@@ -26,32 +26,30 @@ same-then s t = record {
 
 -- the greatest common divisor is then the same
 pub same-greatest : {a b c d g : ℕ} → SameDivisors a b c d → GreatestCommonDivisor c d g → GreatestCommonDivisor a b g
-same-greatest {g} s i = record {
+same-greatest s i = record {
   left = s .back _ (i .left) (i .right) .0;
   right = s .back _ (i .left) (i .right) .1;
   greatest = λ k h j. let m = s .onward k h j in i .greatest k (m .0) (m .1);
 }
 
--- a round of Euclid's: from a and b to b and the remainder
-pub same-remainder : (a b : ℕ) → SameDivisors a b b (a % b)
-same-remainder a b = record {
-  onward = λ k h i. (i, subst (Divides k) down (divides-add h (divides-neg (divides-mul (pos (a / b)) i))));
-  back = λ k h i. (subst (Divides k) up (divides-add (divides-mul (pos (a / b)) h) i), h);
+-- where a = b·d + r, the common divisors of a and b are those of b and r
+pub same-step : (a b d r : ℕ) → b * d + r ≡ a → SameDivisors a b b r
+same-step a b d r e = record {
+  onward = λ k h i. (i, subst (Divides k) down (divides-add h (divides-neg (divides-mul (pos d) i))));
+  back = λ k h i. (subst (Divides k) up (divides-add (divides-mul (pos d) h) i), h);
 }
   where
-    law : (d r : ℕ) → b * d + r ≡ a → pos a +ℤ negℤ (pos d *ℤ pos b) ≡ pos r
-    law d r e = simp zz (omega arith)
+    down : pos a +ℤ negℤ (pos d *ℤ pos b) ≡ pos r
+    down = simp zz (omega arith)
 
-    down : pos a +ℤ negℤ (pos (a / b) *ℤ pos b) ≡ pos (a % b)
-    down = law (a / b) (a % b) (div-add-mod a b)
+    up : pos d *ℤ pos b +ℤ pos r ≡ pos a
+    up = simp zz (omega arith)
 
-    law′ : (d r : ℕ) → b * d + r ≡ a → pos d *ℤ pos b +ℤ pos r ≡ pos a
-    law′ d r e = simp zz (omega arith)
+-- so a round of Euclid's algorithm keeps them
+pub same-remainder : (a b : ℕ) → SameDivisors a b b (a % b)
+same-remainder a b = same-step a b (a / b) (a % b) (div-add-mod a b)
 
-    up : pos (a / b) *ℤ pos b +ℤ pos (a % b) ≡ pos a
-    up = law′ (a / b) (a % b) (div-add-mod a b)
-
--- the last pair: the greatest common divisor of x and 0 is x
+-- and at the last pair, x and 0, it is x
 pub same-last : {a b x y : ℕ} → SameDivisors a b x y → y ≡ 0 → GreatestCommonDivisor a b x
 same-last {x} s e = same-greatest s (record {
   left = divides-self;

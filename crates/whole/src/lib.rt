@@ -16,12 +16,13 @@ pub fn gcd(a: u32, b: u32) -> u32
     x
 }
 
-// The least common multiple, where it is within the limit.
+// A least common multiple, or that it is over a limit.
 pub enum Multiple {
     Least(u32),
     OverLimit,
 }
 
+// The least common multiple if it is at most the limit; with a 0 it is 0. The product of two u32 fits a u64.
 pub fn lcm(a: u32, b: u32, limit: u32) -> Multiple
     ensures { λ r. ⌜ BoundedMultiple a b limit r ⌝ }
 {
