@@ -19,6 +19,17 @@ module _ (a b limit : ℕ) where
   bounded-unique OverLimit (Least n) h k = let over = h n (k .0) in absurd (omega arith)
   bounded-unique OverLimit OverLimit h k = refl
 
+  -- what a caller learns in each arm of a `match`
+  pub bounded-least :
+      {r : Multiple} {m : ℕ} → r ≡ Least m → BoundedMultiple a b limit r → LeastCommonMultiple a b m × (m ≤ limit)
+  unfolding BoundedMultiple
+  bounded-least e h = subst (BoundedMultiple a b limit) e h
+
+  pub bounded-over :
+      {r : Multiple} → r ≡ OverLimit → BoundedMultiple a b limit r → (m : ℕ) → LeastCommonMultiple a b m → limit < m
+  unfolding BoundedMultiple
+  bounded-over e h = subst (BoundedMultiple a b limit) e h
+
 -- the multiple is a·(b/g), also where a and b are 0 and so is g
 pub multiple-by : {a b g : ℕ} → GreatestCommonDivisor a b g → LeastCommonMultiple a b (a * (b / g))
 unfolding lcm
