@@ -7,3 +7,5 @@ pub mod Order
 pub mod Divisibility
 pub mod Multiples
 pub mod Cooper
+pub mod CommonDivisors
+pub mod Bounded

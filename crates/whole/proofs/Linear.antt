@@ -1,13 +1,16 @@
--- Linear facts over ℤ in the middle of a proof: `omega (zarith, sum b p)` reads the hypotheses `≤ℤ`, `<ℤ`, `≡` in reach and proves such a goal.
--- An integer x is U x − D x. Each compound term that stands in a hypothesis or in the goal is listed once, outside in: `sum a b` for a +ℤ b, `dif a b`, `neg a`, `mul c a`.
-use mathlib.Core.Path.{_≡_, refl, sym, _∙_, ap, ap₂, subst₂}
-use mathlib.Core.Logic.{_↔_, _≢_}
-use Prim.Native.Nat.{ℕ, zero, suc, _+_, _*_, _≤_, _<_}
-use native.Mathlib.Omega.{arith, by-contra}
+-- Linear facts over ℤ in the middle of a proof: each integer x is U x − D x, and `omega` reasons about these naturals.
+-- Assumes nothing.
+-- To use it: `omega (zarith, sum b p, dif x d)` proves a goal `≤ℤ`, `<ℤ` or `≡` from the hypotheses of this kind in reach.
+-- Each compound term of the goal and of these hypotheses is listed once, from the outside in: `sum a b` for a +ℤ b,
+-- `dif a b` for a -ℤ b, `neg a` for negℤ a, `mul c a` for pos c *ℤ a.
+use mathlib.Core.Path.{_≡_, sym, _∙_, ap, ap₂, subst₂}
+use Prim.Native.Nat.{ℕ, suc, _+_, _*_, _≤_, _<_}
+use native.Mathlib.Omega.{arith}
 use lib.IntN.{ℤ, pos, negsuc, negℤ, _+ℤ_, _-ℤ_, _*ℤ_}
 use lib.Signed.{_≤ℤ_, _<ℤ_}
-use Rattle.whole.proofs.Difference.{_⊖_, zz, z1, z2, pos-is, negsuc-is, ⊖-add, ⊖-neg, ⊖-mul, ⊖-le, ⊖-lt, ⊖-eq}
+use Rattle.whole.proofs.Difference.{_⊖_, pos-is, negsuc-is, ⊖-add, ⊖-neg, ⊖-mul, ⊖-le, ⊖-lt, ⊖-eq}
 
+-- the part above 0, and the part below
 abbrev pub U : ℤ → ℕ
 U (pos n) = n
 U (negsuc n) = 0
@@ -20,7 +23,8 @@ pub split : (x : ℤ) → x ≡ U x ⊖ D x
 split (pos n) = pos-is n
 split (negsuc n) = negsuc-is n
 
--- the rules: a hypothesis read, a goal turned
+-- ---- the rules: ↓ reads a hypothesis, ↑ turns the goal
+
 pub le↓ : (a b : ℤ) → a ≤ℤ b → U a + D b ≤ U b + D a
 le↓ a b h = ⊖-le (U a) (D a) (U b) (D b) .0 (subst₂ _≤ℤ_ (split a) (split b) h)
 
@@ -39,29 +43,25 @@ lt↑ a b h = subst₂ _<ℤ_ (sym (split a)) (sym (split b)) (⊖-lt (U a) (D a
 pub eq↑ : (a b : ℤ) → U a + D b ≡ U b + D a → a ≡ b
 eq↑ a b h = split a ∙ ⊖-eq (U a) (D a) (U b) (D b) .1 h ∙ sym (split b)
 
-pub ne↓ : (a b : ℤ) → a ≢ b → U a + D b ≢ U b + D a
-ne↓ a b h e = h (eq↑ a b e)
-
-pub nle↓ : (a b : ℤ) → ¬ (a ≤ℤ b) → U b + D a < U a + D b
-nle↓ a b h = by-contra _ _ (λ k. h (le↑ a b (omega arith)))
-
-pub nlt↓ : (a b : ℤ) → ¬ (a <ℤ b) → U b + D a ≤ U a + D b
-nlt↓ a b h = by-contra _ _ (λ k. h (lt↑ a b (omega arith)))
-
 pub ruleset zarith = (arith, le↓, lt↓, eq↓, le↑, lt↑, eq↑)
 
--- the facts of a compound term
-fact : (x : ℤ) (p q : ℕ) → x ≡ p ⊖ q → U x + q ≡ p + D x
-fact x p q e = ⊖-eq (U x) (D x) p q .0 (sym (split x) ∙ e)
+-- ---- the parts of a compound term
+
+parts : (x : ℤ) (p q : ℕ) → x ≡ p ⊖ q → U x + q ≡ p + D x
+parts x p q e = ⊖-eq (U x) (D x) p q .0 (sym (split x) ∙ e)
 
 pub sum : (a b : ℤ) → U (a +ℤ b) + (D a + D b) ≡ U a + U b + D (a +ℤ b)
-sum a b = fact (a +ℤ b) _ _ (ap₂ _+ℤ_ (split a) (split b) ∙ ⊖-add (U a) (D a) (U b) (D b))
+sum a b = parts (a +ℤ b) _ _ (ap₂ _+ℤ_ (split a) (split b) ∙ ⊖-add (U a) (D a) (U b) (D b))
 
 pub neg : (a : ℤ) → U (negℤ a) + U a ≡ D a + D (negℤ a)
-neg a = fact (negℤ a) _ _ (ap negℤ (split a) ∙ ⊖-neg (U a) (D a))
+neg a = parts (negℤ a) _ _ (ap negℤ (split a) ∙ ⊖-neg (U a) (D a))
 
 pub dif : (a b : ℤ) → U (a -ℤ b) + (D a + U b) ≡ U a + D b + D (a -ℤ b)
-dif a b = fact (a -ℤ b) _ _ (ap₂ _-ℤ_ (split a) (split b) ∙ ap (λ x. (U a ⊖ D a) +ℤ x) (⊖-neg (U b) (D b)) ∙ ⊖-add (U a) (D a) (D b) (U b))
+dif a b = parts (a -ℤ b) _ _ (ap₂ _-ℤ_ (split a) (split b) ∙ turned ∙ ⊖-add (U a) (D a) (D b) (U b))
+  where
+    turned : (U a ⊖ D a) -ℤ (U b ⊖ D b) ≡ (U a ⊖ D a) +ℤ (D b ⊖ U b)
+    turned = ap (λ x. (U a ⊖ D a) +ℤ x) (⊖-neg (U b) (D b))
 
 pub mul : (c : ℕ) (a : ℤ) → U (pos c *ℤ a) + c * D a ≡ c * U a + D (pos c *ℤ a)
-mul c a = omega (arith, fact (pos c *ℤ a) _ _ (ap₂ _*ℤ_ (pos-is c) (split a) ∙ ⊖-mul c 0 (U a) (D a)))
+mul c a =
+    omega (arith, parts (pos c *ℤ a) _ _ (ap₂ _*ℤ_ (pos-is c) (split a) ∙ ⊖-mul c 0 (U a) (D a)))

@@ -1,16 +1,21 @@
--- ℤ is a commutative ring with a decidable linear order: what lib.IntN and lib.Signed leave out. Each law is one line, by the transfer of Rep.
-use mathlib.Core.Path.{_≡_, refl, sym, _∙_, ap, subst, subst⁻¹}
-use mathlib.Core.Logic.{_↔_, _≢_, _⊎_, inl, inr}
-use Prim.Native.Nat.{ℕ, zero, suc, _+_, _*_, _-_, _≤_, _<_}
-use native.Mathlib.Nat.{mul-le-mul-left, mul-lt-mul-of-pos-left, le-of-mul-le-mul-left, eq-of-mul-eq-mul-left, lt-of-mul-lt-mul-left}
+-- ℤ is a commutative ring with a decidable linear order: the laws that lib.IntN and lib.Signed leave out.
+-- Assumes nothing.
+-- To use one, write its ℤ arguments, which `_` does not find under +ℤ and *ℤ; `.0` and `.1` are the two ways of a `↔`.
+-- A law that is missing here is one line by Difference, and a linear fact used once is one call of `omega` by Linear.
+use mathlib.Core.Path.{_≡_, refl, ap, subst, subst⁻¹}
+use mathlib.Core.Logic.{_↔_, _⊎_, inl, inr}
+use Prim.Native.Nat.{ℕ, _+_, _*_, _-_, _<_}
+use native.Mathlib.Nat.{mul-le-mul-left, mul-lt-mul-of-pos-left, le-of-mul-le-mul-left, lt-of-mul-lt-mul-left}
+use native.Mathlib.Nat.{eq-of-mul-eq-mul-left}
 use native.Mathlib.Omega.{arith}
-use mathlib.Core.Bool.{Bool, true, false, not}
+use mathlib.Core.Bool.{Bool, true, false}
 use lib.Dec.{T, ltb→lt}
 use lib.IntN.{ℤ, pos, negsuc, negℤ, natAbs, _+ℤ_, _-ℤ_, _*ℤ_}
-use lib.Signed.{_≤ℤ_, _<ℤ_, leZ, ltZ, leZ-yes, ltZ-yes, ltZ-no}
-use Rattle.whole.proofs.Difference.{_⊖_, zz, z1, z2, z3, z4}
+use lib.Signed.{_≤ℤ_, _<ℤ_, leZ, ltZ, leZ-yes, ltZ-yes}
+use Rattle.whole.proofs.Difference.{zz, z1, z2, z3, z4}
 
 -- ---- the ring
+
 pub *ℤ-assoc : (a b c : ℤ) → (a *ℤ b) *ℤ c ≡ a *ℤ (b *ℤ c)
 *ℤ-assoc = z3 _ (simp zz (omega arith))
 
@@ -39,6 +44,7 @@ pub +ℤ-cancel : (a b c : ℤ) → (a +ℤ c ≡ b +ℤ c) ↔ (a ≡ b)
 +ℤ-cancel = z3 _ (simp zz (omega arith))
 
 -- ---- the order
+
 pub ≤ℤ-trans : {a b c : ℤ} → a ≤ℤ b → b ≤ℤ c → a ≤ℤ c
 ≤ℤ-trans {a} {b} {c} = z3 (λ a b c. a ≤ℤ b → b ≤ℤ c → a ≤ℤ c) (simp zz (omega arith)) a b c
 
@@ -92,6 +98,7 @@ pub ≤ℤ-diff : (a b : ℤ) → (a ≤ℤ b) ↔ (pos 0 ≤ℤ (b -ℤ a))
 ≤ℤ-diff = z2 _ (simp zz (omega arith))
 
 -- ---- decisions
+
 pub decLeℤ : (a b : ℤ) → Dec (a ≤ℤ b)
 decLeℤ a b = go (leZ a b) refl
   where
@@ -112,24 +119,47 @@ pub ≤ℤ-or->ℤ : (a b : ℤ) → (a ≤ℤ b) ⊎ (b <ℤ a)
 pub ≤ℤ-total : (a b : ℤ) → (a ≤ℤ b) ⊎ (b ≤ℤ a)
 ≤ℤ-total a b = elim (decLeℤ a b) [ yes h ↦ inl h | no f ↦ inr (<ℤ→≤ℤ (not-≤ℤ a b .0 f)) ]
 
--- ---- the order is a gap in ℕ
+-- ---- the order as a gap in ℕ
+
 pub ≤ℤ-gap : (a b : ℤ) → (a ≤ℤ b) ↔ ((n : ℕ) × (b ≡ a +ℤ pos n))
-≤ℤ-gap = z2 _ (λ p q r s. (simp zz (λ h. (r + q - (p + s), omega arith)), λ h. simp zz (omega (arith, simp zz at (h .1)))))
+≤ℤ-gap = z2 _ (λ p q r s. (
+  simp zz (λ h. (r + q - (p + s), omega arith)),
+  λ h. simp zz (omega (arith, simp zz at (h .1))),
+))
 
 -- ---- products
+
 pub *ℤ-mono : (m : ℕ) (a b : ℤ) → a ≤ℤ b → (pos m *ℤ a) ≤ℤ (pos m *ℤ b)
 *ℤ-mono m = z2 _ (λ p q r s. simp zz (λ h. omega (arith, mul-le-mul-left m h)))
 
 pub *ℤ-≤ : {m : ℕ} → 0 < m → (a b : ℤ) → ((pos m *ℤ a) ≤ℤ (pos m *ℤ b)) ↔ (a ≤ℤ b)
-*ℤ-≤ {m} k = z2 _ (λ p q r s. simp zz (λ h. le-of-mul-le-mul-left {k = m} (omega arith) k, λ h. omega (arith, mul-le-mul-left m h)))
+*ℤ-≤ {m} k = z2 _ (λ p q r s. simp zz (
+  λ h. le-of-mul-le-mul-left {k = m} (omega arith) k,
+  λ h. omega (arith, mul-le-mul-left m h),
+))
 
 pub *ℤ-< : {m : ℕ} → 0 < m → (a b : ℤ) → ((pos m *ℤ a) <ℤ (pos m *ℤ b)) ↔ (a <ℤ b)
-*ℤ-< {m} k = z2 _ (λ p q r s. simp zz (λ h. lt-of-mul-lt-mul-left m (omega arith), λ h. omega (arith, mul-lt-mul-of-pos-left h k)))
+*ℤ-< {m} k = z2 _ (λ p q r s. simp zz (
+  λ h. lt-of-mul-lt-mul-left m (omega arith),
+  λ h. omega (arith, mul-lt-mul-of-pos-left h k),
+))
 
 pub *ℤ-≡ : {m : ℕ} → 0 < m → (a b : ℤ) → (pos m *ℤ a ≡ pos m *ℤ b) ↔ (a ≡ b)
-*ℤ-≡ {m} k = z2 _ (λ p q r s. simp zz (λ h. eq-of-mul-eq-mul-left m k _ _ (omega arith), λ h. omega (arith, ap (λ x. m * x) h)))
+*ℤ-≡ {m} k = z2 _ (λ p q r s. simp zz (
+  λ h. eq-of-mul-eq-mul-left m k _ _ (omega arith),
+  λ h. omega (arith, ap (λ x. m * x) h),
+))
 
--- a positive integer is a positive natural: to use the three above at m : ℤ
+-- a negative factor turns the order round
+pub *ℤ-≤-neg : {m : ℕ} → 0 < m → (a b : ℤ) → ((negℤ (pos m) *ℤ a) ≤ℤ (negℤ (pos m) *ℤ b)) ↔ (b ≤ℤ a)
+*ℤ-≤-neg {m} k = z2 _ (λ p q r s. simp zz (
+  λ h. le-of-mul-le-mul-left {k = m} (omega arith) k,
+  λ h. omega (arith, mul-le-mul-left m h),
+))
+
+-- ---- integers as naturals
+
+-- a positive integer is a positive natural, for which the laws above are stated
 pub positive : (m : ℤ) → pos 0 <ℤ m → (n : ℕ) × (m ≡ pos n) × (0 < n)
 positive (pos n) h = (n, refl, ltb→lt 0 n (h .lt))
 positive (negsuc n) h = absurd (h .lt)
@@ -137,10 +167,6 @@ positive (negsuc n) h = absurd (h .lt)
 pub natural : (m : ℤ) → pos 0 ≤ℤ m → (n : ℕ) × (m ≡ pos n)
 natural (pos n) h = (n, refl)
 natural (negsuc n) h = absurd (h .le)
-
--- a negative factor turns the order round
-pub *ℤ-≤-neg : {m : ℕ} → 0 < m → (a b : ℤ) → ((negℤ (pos m) *ℤ a) ≤ℤ (negℤ (pos m) *ℤ b)) ↔ (b ≤ℤ a)
-*ℤ-≤-neg {m} k = z2 _ (λ p q r s. simp zz (λ h. le-of-mul-le-mul-left {k = m} (omega arith) k, λ h. omega (arith, mul-le-mul-left m h)))
 
 -- a number is its size or the opposite
 pub sign : (c : ℤ) → (c ≡ pos (natAbs c)) ⊎ (c ≡ negℤ (pos (natAbs c)))

@@ -1,3 +1,4 @@
 pub mod Integers
 pub mod Divides
 pub mod Multiples
+pub mod Bounded
