@@ -2,3 +2,8 @@ pub mod Refusals
 pub mod Sums
 pub mod Meaning
 pub mod Folding
+pub mod Choosing
+pub mod NormalForm
+pub mod OverLiterals
+pub mod CommonFactor
+pub mod Disjunction

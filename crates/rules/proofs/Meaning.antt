@@ -61,7 +61,7 @@ T-joined : (j : Junction) (a b : Bool) → T (joined j a b) ↔ Joined j (T a) (
 T-joined and a b = T-and a b
 T-joined or a b = T-or a b
 
-T-whether : (b c : Bool) → T (whether b c) ↔ Whether b (T c)
+pub T-whether : (b c : Bool) → T (whether b c) ↔ Whether b (T c)
 T-whether true c = Iff·rfl
 T-whether false c = T-no c
 

@@ -1,6 +1,6 @@
 -- What the operations on sums do to a sum's value, and the value split into the part of one setting x and the rest.
 -- Assumes nothing.
-use mathlib.Core.Path.{_≡_, refl, sym, _∙_, ap, fun-ext}
+use mathlib.Core.Path.{_≡_, refl, sym, _∙_, ap, ap₂, fun-ext}
 use mathlib.Core.Bool.{Bool, true, false, _&&_}
 use mathlib.Core.List.{List, [], _∷_}
 use Prim.Native.Nat.{ℕ, zero, suc, _≤_}
@@ -159,14 +159,54 @@ value-with x s z ρ h =
     ∙ ap (λ y. factor x s *ℤ y +ℤ dot (put x (pos 0) s) (places (with x z ρ))) (places-here x z ρ h)
     ∙ ap (λ y. factor x s *ℤ z +ℤ y) (dot-off x s (places (with x z ρ)) (places ρ) (places-there x z ρ))
 
--- ---- the word at a place
-
 pub factor-put : (v : ℕ) (a : ℤ) (s : Sum) → factor v (put v a s) ≡ a
 unfolding put
 factor-put zero a [] = refl
 factor-put zero a (b ∷ s) = refl
 factor-put (suc v) a [] = factor-put v a []
 factor-put (suc v) a (b ∷ s) = factor-put v a s
+
+put-put : (v : ℕ) (a b : ℤ) (s : Sum) → put v b (put v a s) ≡ put v b s
+unfolding put
+put-put zero a b [] = refl
+put-put zero a b (c ∷ s) = refl
+put-put (suc v) a b [] = ap (λ (l : Sum). pos 0 ∷ l) (put-put v a b [])
+put-put (suc v) a b (c ∷ s) = ap (λ (l : Sum). c ∷ l) (put-put v a b s)
+
+put-scale : (v : ℕ) (k : ℤ) (s : Sum) → put v (pos 0) (scale k s) ≡ scale k (put v (pos 0) s)
+unfolding put scale
+put-scale zero k [] = ap (λ z. z ∷ []) (sym (*ℤ-zero k))
+put-scale zero k (c ∷ s) = ap (λ z. z ∷ scale k s) (sym (*ℤ-zero k))
+put-scale (suc v) k [] = ap₂ _∷_ (sym (*ℤ-zero k)) (put-scale v k [])
+put-scale (suc v) k (c ∷ s) = ap (λ (l : Sum). (k *ℤ c) ∷ l) (put-scale v k s)
+
+pub rest-scale : (x : ℕ) (k : ℤ) (s : Sum) (ρ : Choice) → rest x (scale k s) ρ ≡ k *ℤ rest x s ρ
+unfolding rest
+rest-scale x k s ρ = ap (λ (l : Sum). value l ρ) (put-scale x k s) ∙ value-scale k (put x (pos 0) s) ρ
+
+rest-number : (x : ℕ) (c : ℤ) (ρ : Choice) → 1 ≤ x → rest x (number c) ρ ≡ c
+rest-number x c ρ h = law (factor x (number c)) c (rest x (number c) ρ) (sym (value-number c (with x (pos 0) ρ)) ∙ value-with x (number c) (pos 0) ρ h)
+  where
+    law : (f c r : ℤ) → c ≡ f *ℤ pos 0 +ℤ r → r ≡ c
+    law = z3 _ (simp zz (omega arith))
+
+-- a put for x's factor
+pub value-put : (x : ℕ) (a : ℤ) (s : Sum) (z : ℤ) (ρ : Choice) → 1 ≤ x → value (put x a s) (with x z ρ) ≡ a *ℤ z +ℤ rest x s ρ
+unfolding rest
+value-put x a s z ρ h =
+    value-with x (put x a s) z ρ h
+    ∙ ap₂ (λ f l. f *ℤ z +ℤ value l ρ) (factor-put x a s) (put-put x a (pos 0) s)
+
+pub value-setting : (x : ℕ) (z : ℤ) (ρ : Choice) → 1 ≤ x → value (setting x) (with x z ρ) ≡ z
+unfolding setting
+value-setting x z ρ h =
+    value-put x (pos 1) (number (pos 0)) z ρ h
+    ∙ ap (λ r. pos 1 *ℤ z +ℤ r) (rest-number x (pos 0) ρ h) ∙ law z
+  where
+    law : (z : ℤ) → pos 1 *ℤ z +ℤ pos 0 ≡ z
+    law = z1 _ (simp zz (omega arith))
+
+-- ---- the word at a place
 
 pub factor-put-other : (v x : ℕ) (a : ℤ) (s : Sum) → ¬ (v ≡ x) → factor v (put x a s) ≡ factor v s
 unfolding put

@@ -1,5 +1,6 @@
 -- Every element of a list, and some element of it.
 -- Assumes nothing.
+use mathlib.Core.Path.{_≡_, refl}
 use mathlib.Core.Logic.{_↔_, _⊎_, inl, inr, Iff·rfl, Iff·trans}
 use mathlib.Core.List.{List, [], _∷_, _++_, map}
 
@@ -37,11 +38,12 @@ module _ {A : Type 0} where
   any-imp f (a ∷ l) (inl k) = inl (f a k)
   any-imp f (a ∷ l) (inr k) = inr (any-imp f l k)
 
-  pub any-some : (Q : A → Type 0) (l : List A) → Any Q l → (a : A) × Q a
+  -- it is an element of the list
+  pub any-found : (Q : A → Type 0) (l : List A) → Any Q l → (a : A) × Any (λ b. a ≡ b) l × Q a
   unfolding Any
-  any-some Q [] h = absurd h
-  any-some Q (a ∷ l) (inl k) = (a, k)
-  any-some Q (a ∷ l) (inr k) = any-some Q l k
+  any-found Q [] h = absurd h
+  any-found Q (a ∷ l) (inl k) = (a, inl refl, k)
+  any-found Q (a ∷ l) (inr k) = let f = any-found Q l k in (f .0, inr (f .1), f .2)
 
   pub any-append : (Q : A → Type 0) (k l : List A) → Any Q (k ++ l) ↔ (Any Q k ⊎ Any Q l)
   unfolding Any

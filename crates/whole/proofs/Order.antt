@@ -10,7 +10,7 @@ use native.Mathlib.Nat.{eq-of-mul-eq-mul-left}
 use native.Mathlib.Omega.{arith}
 use mathlib.Core.Bool.{Bool, true, false}
 use lib.Dec.{T, ltb→lt}
-use lib.IntN.{ℤ, pos, negsuc, negℤ, natAbs, _+ℤ_, _-ℤ_, _*ℤ_}
+use lib.IntN.{ℤ, pos, negsuc, negℤ, natAbs, _+ℤ_, _-ℤ_, _*ℤ_, *ℤ-zero}
 use lib.Signed.{_≤ℤ_, _<ℤ_, leZ, ltZ, leZ-yes, ltZ-yes}
 use Rattle.whole.proofs.Difference.{zz, z1, z2, z3, z4}
 
@@ -172,3 +172,7 @@ natural (negsuc n) h = absurd (h .le)
 pub sign : (c : ℤ) → (c ≡ pos (natAbs c)) ⊎ (c ≡ negℤ (pos (natAbs c)))
 sign (pos n) = inl refl
 sign (negsuc n) = inr refl
+
+-- ---- scaling: 0 < z exactly when 0 < m·z
+pub positive-scale : {m : ℕ} → 0 < m → (z : ℤ) → (pos 0 <ℤ (pos m *ℤ z)) ↔ (pos 0 <ℤ z)
+positive-scale {m} p z = subst (λ y. (y <ℤ (pos m *ℤ z)) ↔ (pos 0 <ℤ z)) (*ℤ-zero (pos m)) (*ℤ-< p (pos 0) z)

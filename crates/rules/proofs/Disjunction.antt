@@ -1,0 +1,407 @@
+-- Step 3 keeps the meaning of for some x: Cooper's theorem on rules.
+-- Assumes nothing.
+use mathlib.Core.Path.{_≡_, refl, sym, _∙_, ap, subst}
+use mathlib.Core.Logic.{_↔_, _⊎_, inl, inr, Iff·rfl, Iff·trans, Iff·symm}
+use mathlib.Core.Bool.{Bool, true, false, not, cond}
+use mathlib.Core.List.{List, [], _∷_, _++_, map}
+use Prim.Native.Nat.{ℕ, zero, suc, _+_, _≤_, _<_}
+use native.Mathlib.Nat.{eq-or-lt-of-le}
+use native.Mathlib.Omega.{arith}
+use lib.Dec.{T}
+use lib.IntN.{ℤ, pos, negsuc, negℤ, natAbs, _+ℤ_, _-ℤ_, _*ℤ_, +ℤ-comm}
+use lib.Signed.{_<ℤ_, _≤ℤ_}
+use Rattle.whole.specs.Integers.{eqZ}
+use Rattle.whole.specs.Divides.{Divides}
+use Rattle.whole.specs.Multiples.{lcms}
+use Rattle.whole.proofs.Tests.{T-and, cond-ind, eqZ→eq}
+use Rattle.whole.proofs.Lists.{All, Any, ⊎-iff, any-imp, any-found, any-append, any-map}
+use Rattle.whole.proofs.Difference.{zz, z1, z2, z3, z4}
+use Rattle.whole.proofs.Order.{≤ℤ-or->ℤ}
+use Rattle.whole.proofs.Divisibility.{divides-zero, divides-mul, divides-shift}
+use Rattle.whole.proofs.Multiples.{lcms-pos, lcms-divided}
+use Rattle.whole.proofs.Cooper.{UpTo, Reached, Cooper, crossed, cooper}
+use Rattle.rules.specs.Sum.{Sum, Choice, with, factor, add, scale, negate, put, number, same, value}
+use Rattle.rules.specs.Rule.{Junction, or, Test, positive, divisible, is-zero, Rule, Constant, Join, Not, Literal, Bind, True, False, Some, Passes, Holds}
+use Rattle.rules.specs.Literals.{gather, map-literals}
+use Rattle.rules.specs.Steps.{divisor-of, period, bound-of, without, once, bounds, far-literal, far-left, sum-at, body-at, for-each, disjuncts, any-of, disjunction}
+use Rattle.rules.specs.Laws.{Each, DivisorOf, Normal, UnitFactor, Periodic, CooperTheorem, DisjunctionKeeps}
+use Rattle.rules.proofs.Sums.{rest, value-with, value-add, value-scale, value-negate, value-number}
+use Rattle.rules.proofs.Meaning.{joined-iff, whether-iff, at-equal}
+use Rattle.rules.proofs.OverLiterals.{normal-imp, normal-both, each-normal, map-keeps, map-same, map-normal, goes-over, gathered-all, all-gathered, Among, gathered-among}
+
+-- ---- the factor of x is 1, −1 or 0
+
+unit-cases : (f : ℤ) → natAbs f ≤ 1 → (f ≡ pos 1) ⊎ ((f ≡ negsuc 0) ⊎ (f ≡ pos 0))
+unit-cases (pos zero) h = inr (inr refl)
+unit-cases (pos (suc zero)) h = inl refl
+unit-cases (pos (suc (suc n))) h = absurd (omega arith)
+unit-cases (negsuc zero) h = inr (inl refl)
+unit-cases (negsuc (suc n)) h = absurd (omega arith)
+
+module _ (x : ℕ) (s : Sum) where
+  far-one : factor x s ≡ pos 1 → far-literal x positive s ≡ False
+  unfolding far-literal
+  far-one e = ap (λ f. cond (eqZ f (pos 1)) False (cond (eqZ f (negsuc 0)) True (Literal positive s))) e
+
+  far-minus-one : factor x s ≡ negsuc 0 → far-literal x positive s ≡ True
+  unfolding far-literal
+  far-minus-one e = ap (λ f. cond (eqZ f (pos 1)) False (cond (eqZ f (negsuc 0)) True (Literal positive s))) e
+
+  far-none : factor x s ≡ pos 0 → far-literal x positive s ≡ Literal positive s
+  unfolding far-literal
+  far-none e = ap (λ f. cond (eqZ f (pos 1)) False (cond (eqZ f (negsuc 0)) True (Literal positive s))) e
+
+  bound-one : factor x s ≡ pos 1 → bound-of x positive s ≡ negate (put x (pos 0) s) ∷ []
+  unfolding bound-of
+  bound-one e = ap (λ f. cond (eqZ f (pos 1)) (negate (put x (pos 0) s) ∷ []) []) e
+
+at-rule : {a b : Rule} (ρ : Choice) → a ≡ b → Holds a ρ ↔ Holds b ρ
+at-rule ρ e = (subst (λ r. Holds r ρ) e, subst (λ r. Holds r ρ) (sym e))
+
+-- ---- each bound is there once, and none is lost
+
+same→eq : (s t : Sum) → T (same s t) → s ≡ t
+unfolding same
+same→eq [] [] h = refl
+same→eq [] (b ∷ t) h = absurd h
+same→eq (a ∷ s) [] h = absurd h
+same→eq (a ∷ s) (b ∷ t) h =
+    let k = T-and (eqZ a b) (same s t) .0 h in
+    ap (λ z. z ∷ s) (eqZ→eq a b (k .0)) ∙ ap (λ (l : Sum). b ∷ l) (same→eq s t (k .1))
+
+any-without : (b c : Sum) (l : List Sum) → Any (λ d. d ≡ c) l → (b ≡ c) ⊎ Any (λ d. d ≡ c) (without b l)
+unfolding Any without
+any-without b c [] h = absurd h
+any-without b c (d ∷ l) h = cond-ind (same b d) (without b l) (d ∷ without b l) (λ (m : List Sum). (b ≡ c) ⊎ Any (λ e. e ≡ c) m)
+    (λ t. elim h [ inl k ↦ inl (same→eq b d t ∙ k) | inr k ↦ any-without b c l k ])
+    (λ t. elim h [ inl k ↦ inr (inl k) | inr k ↦ elim (any-without b c l k) [ inl e ↦ inl e | inr r ↦ inr (inr r) ] ])
+
+any-once : (c : Sum) (l : List Sum) → Any (λ d. d ≡ c) l → Any (λ d. d ≡ c) (once l)
+unfolding Any once
+any-once c [] h = h
+any-once c (b ∷ l) (inl k) = inl k
+any-once c (b ∷ l) (inr k) = any-without b c (once l) (any-once c l k)
+
+bounds-among : (x : ℕ) (R : Test → Sum → Type 0) (a : Rule) → Normal R a → Normal (Among (bound-of x) R (bounds x a)) a
+unfolding bounds
+bounds-among x R a n =
+    normal-imp (Among (bound-of x) R (gather (bound-of x) a)) (Among (bound-of x) R (once (gather (bound-of x) a)))
+    (λ t s f y h. any-once y (gather (bound-of x) a) (f y h)) a (gathered-among (bound-of x) R a n)
+
+-- ---- the body in x, at a choice of the other settings
+
+module _ (x : ℕ) (ρ : Choice) (g : 1 ≤ x) where
+  abbrev here : ℤ → Choice
+  here z = with x z ρ
+
+  value-one : (s : Sum) (z : ℤ) → factor x s ≡ pos 1 → value s (here z) ≡ z +ℤ rest x s ρ
+  value-one s z e = value-with x s z ρ g ∙ ap (λ f. f *ℤ z +ℤ rest x s ρ) e ∙ law z (rest x s ρ)
+    where
+      law : (z r : ℤ) → pos 1 *ℤ z +ℤ r ≡ z +ℤ r
+      law = z2 _ (simp zz (omega arith))
+
+  value-minus-one : (s : Sum) (z : ℤ) → factor x s ≡ negsuc 0 → value s (here z) ≡ rest x s ρ -ℤ z
+  value-minus-one s z e = value-with x s z ρ g ∙ ap (λ f. f *ℤ z +ℤ rest x s ρ) e ∙ law z (rest x s ρ)
+    where
+      law : (z r : ℤ) → negsuc 0 *ℤ z +ℤ r ≡ r -ℤ z
+      law = z2 _ (simp zz (omega arith))
+
+  value-none : (s : Sum) (y z : ℤ) → factor x s ≡ pos 0 → value s (here y) ≡ value s (here z)
+  value-none s y z e = alone y ∙ sym (alone z)
+    where
+      law : (z r : ℤ) → pos 0 *ℤ z +ℤ r ≡ r
+      law = z2 _ (simp zz (omega arith))
+
+      alone : (y : ℤ) → value s (here y) ≡ rest x s ρ
+      alone y = value-with x s y ρ g ∙ ap (λ f. f *ℤ y +ℤ rest x s ρ) e ∙ law y (rest x s ρ)
+
+  -- 1. periodic
+
+  divisor-periodic : (P : ℕ) (b : Bool) (k : ℕ) (s : Sum) → Periodic P x (divisible b k) s → (z : ℤ) → Passes (divisible b k) (value s (here z)) ↔ Passes (divisible b k) (value s (here (z +ℤ pos P)))
+  divisor-periodic P b k s p z = whether-iff b
+      (Iff·trans (at-equal (Divides k) (value-with x s z ρ g))
+      (Iff·trans (Iff·symm (divides-shift moved (factor x s *ℤ z +ℤ rest x s ρ)))
+      (at-equal (Divides k) (law (factor x s) z (rest x s ρ) (pos P) ∙ sym (value-with x s (z +ℤ pos P) ρ g)))))
+    where
+      none : (P : ℤ) → pos 0 ≡ pos 0 *ℤ P
+      none = z1 _ (simp zz (omega arith))
+
+      moved : Divides k (factor x s *ℤ pos P)
+      moved = elim p [
+        | inl e ↦ subst (λ f. Divides k (f *ℤ pos P)) (sym e) (subst (Divides k) (none (pos P)) divides-zero)
+        | inr d ↦ divides-mul (factor x s) d
+      ]
+
+      law : (f z r P : ℤ) → (f *ℤ z +ℤ r) +ℤ f *ℤ P ≡ f *ℤ (z +ℤ P) +ℤ r
+      law = z4 _ (simp zz (omega arith))
+
+  far-periodic : (P : ℕ) (z : ℤ) (t : Test) (s : Sum) → UnitFactor x t s × Periodic P x t s → Holds (far-literal x t s) (here z) ↔ Holds (far-literal x t s) (here (z +ℤ pos P))
+  unfolding Holds far-literal
+  far-periodic P z positive s h = elim (unit-cases (factor x s) (h .0)) [
+    | inl e ↦ constant False (far-one x s e) Iff·rfl
+    | inr (inl e) ↦ constant True (far-minus-one x s e) Iff·rfl
+    | inr (inr e) ↦ constant (Literal positive s) (far-none x s e) (at-equal (Passes positive) (value-none s z (z +ℤ pos P) e))
+  ]
+    where
+      constant : (r : Rule) → far-literal x positive s ≡ r → Holds r (here z) ↔ Holds r (here (z +ℤ pos P)) → Holds (far-literal x positive s) (here z) ↔ Holds (far-literal x positive s) (here (z +ℤ pos P))
+      constant r e k = Iff·trans (at-rule (here z) e) (Iff·trans k (at-rule (here (z +ℤ pos P)) (sym e)))
+  far-periodic P z (divisible b k) s h = divisor-periodic P b k s (h .1) z
+  far-periodic P z is-zero s h = absurd (h .0)
+
+  -- 2. far below
+
+  Below : Rule → Rule → Type 0
+  Below a far = (n : ℕ) × ((z : ℤ) → z <ℤ negℤ (pos n) → Holds a (here z) ↔ Holds far (here z))
+
+  below-one : (r z : ℤ) → z <ℤ negℤ (pos (natAbs r)) → ¬ (pos 0 <ℤ (z +ℤ r))
+  below-one (pos n) = z1 _ (simp zz (omega arith))
+  below-one (negsuc n) = z1 _ (simp zz (omega arith))
+
+  below-minus-one : (r z : ℤ) → z <ℤ negℤ (pos (natAbs r)) → pos 0 <ℤ (r -ℤ z)
+  below-minus-one (pos n) = z1 _ (simp zz (omega arith))
+  below-minus-one (negsuc n) = z1 _ (simp zz (omega arith))
+
+  below-literal : (t : Test) (s : Sum) → UnitFactor x t s → Below (Literal t s) (far-literal x t s)
+  unfolding Below Holds far-literal
+  below-literal positive s h = elim (unit-cases (factor x s) h) [
+    | inl e ↦ (natAbs (rest x s ρ), λ z l. Iff·trans (none s z l e) (at-rule (here z) (sym (far-one x s e))))
+    | inr (inl e) ↦ (natAbs (rest x s ρ), λ z l. Iff·trans (all s z l e) (at-rule (here z) (sym (far-minus-one x s e))))
+    | inr (inr e) ↦ (0, λ z l. at-rule (here z) (sym (far-none x s e)))
+  ]
+    where
+      none : (s : Sum) (z : ℤ) → z <ℤ negℤ (pos (natAbs (rest x s ρ))) → factor x s ≡ pos 1 → Passes positive (value s (here z)) ↔ Holds False (here z)
+      none s z l e = (λ k. below-one (rest x s ρ) z l (subst (Passes positive) (value-one s z e) k), λ k. absurd k)
+
+      all : (s : Sum) (z : ℤ) → z <ℤ negℤ (pos (natAbs (rest x s ρ))) → factor x s ≡ negsuc 0 → Passes positive (value s (here z)) ↔ Holds True (here z)
+      all s z l e = (λ k. tt, λ k. subst (Passes positive) (sym (value-minus-one s z e)) (below-minus-one (rest x s ρ) z l))
+  below-literal (divisible b k) s h = (0, λ z l. Iff·rfl)
+  below-literal is-zero s h = absurd h
+
+  low-enough : (m n : ℕ) (z : ℤ) → z <ℤ negℤ (pos (m + n)) → (z <ℤ negℤ (pos m)) × (z <ℤ negℤ (pos n))
+  low-enough m n = z1 _ (simp zz (omega arith))
+
+  below : (a : Rule) → Normal (UnitFactor x) a → Below a (far-left x a)
+  unfolding Normal Below far-left map-literals Holds
+  below (Constant b) n = (0, λ z l. Iff·rfl)
+  below (Join j a b) n =
+      let p = below a (n .0) in
+      let q = below b (n .1) in
+      (p .0 + q .0, λ z l. let k = low-enough (p .0) (q .0) z l in joined-iff j (p .1 z (k .0)) (q .1 z (k .1)))
+  below (Not a) n = absurd n
+  below (Literal t s) n = below-literal t s n
+  below (Bind q v a) n = absurd n
+
+  -- 3. one period down
+
+  module _ (P : ℕ) (bs : List Sum) where
+    Bound : ℤ → Type 0
+    Bound y = Any (λ c. y ≡ value c ρ) bs
+
+    abbrev Ready : Test → Sum → Type 0
+    Ready t s = UnitFactor x t s × (Periodic P x t s × Among (bound-of x) (UnitFactor x) bs t s)
+
+    bound-there : (s : Sum) → factor x s ≡ pos 1 → Among (bound-of x) (UnitFactor x) bs positive s → Bound (negℤ (rest x s ρ))
+    unfolding Bound rest Any
+    bound-there s e f = any-imp
+        (λ c i. sym (ap (λ (d : Sum). value d ρ) i ∙ value-negate (put x (pos 0) s) ρ)) bs
+        (f (negate (put x (pos 0) s)) (subst (Any (λ c. c ≡ negate (put x (pos 0) s))) (sym (bound-one x s e)) (inl refl)))
+
+    down-one : (s : Sum) (z : ℤ) → factor x s ≡ pos 1 → Bound (negℤ (rest x s ρ)) → pos 0 <ℤ ((z +ℤ pos P) +ℤ rest x s ρ) → Reached Bound P (z +ℤ pos P) ⊎ (pos 0 <ℤ (z +ℤ rest x s ρ))
+    down-one s z e b h = elim (≤ℤ-or->ℤ z (negℤ (rest x s ρ))) [
+      | inl l ↦ inl (negℤ (rest x s ρ), b, crossed (negℤ (rest x s ρ)) z (above (rest x s ρ) (z +ℤ pos P) h) l)
+      | inr l ↦ inr (over (rest x s ρ) z l)
+    ]
+      where
+        above : (r y : ℤ) → pos 0 <ℤ (y +ℤ r) → negℤ r <ℤ y
+        above = z2 _ (simp zz (omega arith))
+
+        over : (r z : ℤ) → negℤ r <ℤ z → pos 0 <ℤ (z +ℤ r)
+        over = z2 _ (simp zz (omega arith))
+
+    down-literal : (z : ℤ) (t : Test) (s : Sum) → Ready t s → Passes t (value s (here (z +ℤ pos P))) → Reached Bound P (z +ℤ pos P) ⊎ Passes t (value s (here z))
+    down-literal z positive s r h = elim (unit-cases (factor x s) (r .0)) [
+      | inl e ↦ ⊎-iff Iff·rfl (at-equal (Passes positive) (sym (value-one s z e))) .0 (down-one s z e (bound-there s e (r .1 .1)) (subst (Passes positive) (value-one s (z +ℤ pos P) e) h))
+      | inr (inl e) ↦ inr (subst (Passes positive) (sym (value-minus-one s z e)) (lower (rest x s ρ) z (subst (Passes positive) (value-minus-one s (z +ℤ pos P) e) h)))
+      | inr (inr e) ↦ inr (subst (Passes positive) (value-none s (z +ℤ pos P) z e) h)
+    ]
+      where
+        lower : (r z : ℤ) → pos 0 <ℤ (r -ℤ (z +ℤ pos P)) → pos 0 <ℤ (r -ℤ z)
+        lower = z2 _ (simp zz (omega arith))
+    down-literal z (divisible b k) s r h = inr (divisor-periodic P b k s (r .1 .0) z .1 h)
+    down-literal z is-zero s r h = absurd (r .0)
+
+    -- the three together
+    module _ (a : Rule) (u : Normal (UnitFactor x) a) (d : Normal (Periodic P x) a) (m : Normal (Among (bound-of x) (UnitFactor x) bs) a) where
+      periodic : (z : ℤ) → Holds (far-left x a) (here z) ↔ Holds (far-left x a) (here (z +ℤ pos P))
+      unfolding far-left
+      periodic z = map-same (far-literal x) (here z) (here (z +ℤ pos P)) a
+          (normal-imp (λ t s. UnitFactor x t s × Periodic P x t s) (λ t s. Holds (far-literal x t s) (here z) ↔ Holds (far-literal x t s) (here (z +ℤ pos P)))
+          (far-periodic P z) a (normal-both (UnitFactor x) (Periodic P x) a u d))
+
+      one-period-down : (z : ℤ) → Holds a (here (z +ℤ pos P)) → Reached Bound P (z +ℤ pos P) ⊎ Holds a (here z)
+      one-period-down z = goes-over (Reached Bound P (z +ℤ pos P)) (here (z +ℤ pos P)) (here z) a
+          (normal-imp Ready (λ t s. Passes t (value s (here (z +ℤ pos P))) → Reached Bound P (z +ℤ pos P) ⊎ Passes t (value s (here z)))
+          (down-literal z) a ready)
+        where
+          others : Test → Sum → Type 0
+          others t s = Periodic P x t s × Among (bound-of x) (UnitFactor x) bs t s
+
+          ready : Normal Ready a
+          ready = normal-both (UnitFactor x) others a u (normal-both (Periodic P x) (Among (bound-of x) (UnitFactor x) bs) a d m)
+
+      body-cooper : 0 < P → Cooper (λ z. Holds a (here z)) (λ z. Holds (far-left x a) (here z)) Bound P
+      unfolding Below
+      body-cooper p = record {
+        positive = p;
+        periodic = periodic;
+        low = negℤ (pos (below a u .0));
+        far-below = below a u .1;
+        one-period-down = one-period-down;
+      }
+
+  -- ---- the disjuncts
+
+  value-at : (u s : Sum) → value (sum-at x u s) ρ ≡ value s (here (value u ρ))
+  unfolding sum-at rest
+  value-at u s =
+      value-add (put x (pos 0) s) (scale (factor x s) u) ρ
+      ∙ ap (λ z. value (put x (pos 0) s) ρ +ℤ z) (value-scale (factor x s) u ρ)
+      ∙ +ℤ-comm (value (put x (pos 0) s) ρ) (factor x s *ℤ value u ρ)
+      ∙ sym (value-with x s (value u ρ) ρ g)
+
+  body-at-keeps : (R : Test → Sum → Type 0) (u : Sum) (a : Rule) → Normal R a → Holds (body-at x u a) ρ ↔ Holds a (here (value u ρ))
+  unfolding body-at
+  body-at-keeps R u a n = map-keeps (λ t s. Literal t (sum-at x u s)) ρ (here (value u ρ)) a
+      (normal-imp R (λ t s. Holds (Literal t (sum-at x u s)) ρ ↔ Passes t (value s (here (value u ρ))))
+      (λ t s r. unfold Holds in at-equal (Passes t) (value-at u s)) a n)
+
+  far-at : (a : Rule) → Normal (UnitFactor x) a → (j : ℕ) → Holds (body-at x (number (pos j)) (far-left x a)) ρ ↔ Holds (far-left x a) (here (pos j))
+  far-at a n j = Iff·trans
+      (body-at-keeps (λ t s. Unit {0}) (number (pos j)) (far-left x a) (far-normal a n))
+      (at-equal (λ z. Holds (far-left x a) (here z)) (value-number (pos j) ρ))
+    where
+      literal : (t : Test) (s : Sum) → UnitFactor x t s → Normal (λ t s. Unit {0}) (far-literal x t s)
+      literal positive s h = unfold far-literal Normal in
+          cond-ind (eqZ (factor x s) (pos 1)) False (cond (eqZ (factor x s) (negsuc 0)) True (Literal positive s)) (Normal (λ t s. Unit {0})) (λ c. tt)
+          (λ c. cond-ind (eqZ (factor x s) (negsuc 0)) True (Literal positive s) (Normal (λ t s. Unit {0})) (λ i. tt) (λ i. tt))
+      literal (divisible b k) s h = unfold far-literal Normal in tt
+      literal is-zero s h = absurd h
+
+      far-normal : (a : Rule) → Normal (UnitFactor x) a → Normal (λ t s. Unit {0}) (far-left x a)
+      far-normal a n = unfold far-left in map-normal (far-literal x) (UnitFactor x) (λ t s. Unit {0}) literal a n
+
+  near-at : (a : Rule) → Normal (UnitFactor x) a → (b : Sum) (j : ℕ) → Holds (body-at x (add b (number (pos j))) a) ρ ↔ Holds a (here (value b ρ +ℤ pos j))
+  near-at a n b j = Iff·trans
+      (body-at-keeps (UnitFactor x) (add b (number (pos j))) a n)
+      (at-equal (λ z. Holds a (here z)) (value-add b (number (pos j)) ρ ∙ ap (λ z. value b ρ +ℤ z) (value-number (pos j) ρ)))
+
+-- ---- some of what is joined by or
+
+any-of-holds : (ds : List Rule) (ρ : Choice) → Holds (any-of ds) ρ ↔ Any (λ d. Holds d ρ) ds
+unfolding any-of Any Holds
+any-of-holds [] ρ = Iff·rfl
+any-of-holds (a ∷ []) ρ = (λ h. inl h, λ h. elim h [ inl k ↦ k | inr k ↦ absurd k ])
+any-of-holds (a ∷ b ∷ l) ρ = ⊎-iff Iff·rfl (any-of-holds (b ∷ l) ρ)
+
+abbrev From : ℕ → ℕ → (ℕ → Type 0) → Type 0
+From from n Q = (j : ℕ) × (from ≤ j) × (j < from + n) × Q j
+
+from-suc : (from n : ℕ) (Q : ℕ → Type 0) → (Q from ⊎ From (suc from) n Q) ↔ From from (suc n) Q
+from-suc from n Q = (to, fro)
+  where
+    to : Q from ⊎ From (suc from) n Q → From from (suc n) Q
+    to (inl q) = (from, omega arith, omega arith, q)
+    to (inr r) = (r .0, omega (arith, r .1), omega (arith, r .2), r .3)
+
+    fro : From from (suc n) Q → Q from ⊎ From (suc from) n Q
+    fro r = elim (eq-or-lt-of-le (r .1)) [
+      | inl e ↦ inl (subst Q (sym e) (r .3))
+      | inr l ↦ inr (r .0, l, omega (arith, r .2), r .3)
+    ]
+
+any-for-each : {A : Type 0} (Q : A → Type 0) (from n : ℕ) (f : ℕ → List A) → Any Q (for-each from n f) ↔ From from n (λ j. Any Q (f j))
+unfolding for-each Any
+any-for-each Q from zero f = (λ h. absurd h, λ h. absurd (omega (arith, h .1, h .2)))
+any-for-each Q from (suc n) f = Iff·trans (any-append Q (f from) (for-each (suc from) n f))
+    (Iff·trans (⊎-iff Iff·rfl (any-for-each Q (suc from) n f)) (from-suc from n (λ j. Any Q (f j))))
+
+up-to : (P : ℕ) (Q R : ℕ → Type 0) → ((j : ℕ) → Q j ↔ R j) → From 1 P Q ↔ UpTo P R
+up-to P Q R h = (λ r. (r .0, r .1, omega (arith, r .2), h (r .0) .0 (r .3)), λ r. (r .0, r .1, omega (arith, r .2), h (r .0) .1 (r .3)))
+
+-- ---- the theorem
+
+module _ (P x : ℕ) (a : Rule) (g : 1 ≤ x) (n : Normal (UnitFactor x) a) (ρ : Choice) where
+  abbrev bs : List Sum
+  bs = bounds x a
+
+  abbrev Far : Type 0
+  Far = UpTo P (λ j. Holds (far-left x a) (with x (pos j) ρ))
+
+  abbrev Near : Type 0
+  Near = (b : ℤ) × Bound x ρ g P bs b × UpTo P (λ j. Holds a (with x (b +ℤ pos j) ρ))
+
+  fars : ℕ → List Rule
+  fars j = body-at x (number (pos j)) (far-left x a) ∷ []
+
+  nears : ℕ → List Rule
+  nears j = map (λ b. body-at x (add b (number (pos j))) a) bs
+
+  any-far : Any (λ d. Holds d ρ) (for-each 1 P fars) ↔ Far
+  any-far = Iff·trans (any-for-each (λ d. Holds d ρ) 1 P fars) (up-to P (λ j. Any (λ d. Holds d ρ) (fars j)) (λ j. Holds (far-left x a) (with x (pos j) ρ)) one)
+    where
+      one : (j : ℕ) → Any (λ d. Holds d ρ) (fars j) ↔ Holds (far-left x a) (with x (pos j) ρ)
+      one j = unfold Any fars in Iff·trans (λ h. elim h [ inl k ↦ k | inr k ↦ absurd k ], λ h. inl h) (far-at x ρ g a n j)
+
+  any-near : Any (λ d. Holds d ρ) (for-each 1 P nears) ↔ Near
+  any-near = Iff·trans (any-for-each (λ d. Holds d ρ) 1 P nears) (Iff·trans (up-to P (λ j. Any (λ d. Holds d ρ) (nears j)) (λ j. Any (At j) bs) each) (to, fro))
+    where
+      At : ℕ → Sum → Type 0
+      At j b = Holds a (with x (value b ρ +ℤ pos j) ρ)
+
+      each : (j : ℕ) → Any (λ d. Holds d ρ) (nears j) ↔ Any (At j) bs
+      each j = unfold nears in Iff·trans (any-map (λ d. Holds d ρ) (λ b. body-at x (add b (number (pos j))) a) bs)
+          (any-imp (λ b. near-at x ρ g a n b j .0) bs, any-imp (λ b. near-at x ρ g a n b j .1) bs)
+
+      to : UpTo P (λ j. Any (At j) bs) → Near
+      to r =
+          let f = any-found (At (r .0)) bs (r .3) in
+          (value (f .0) ρ, unfold Bound in any-imp (λ c e. ap (λ (d : Sum). value d ρ) e) bs (f .1), (r .0, r .1, r .2, f .2))
+
+      fro : Near → UpTo P (λ j. Any (At j) bs)
+      fro r = (r .2 .0, r .2 .1, r .2 .2, unfold Bound in any-imp (λ c e. subst (λ y. Holds a (with x (y +ℤ pos (r .2 .0)) ρ)) e (r .2 .3)) bs (r .1))
+
+  disjunction-cooper : 0 < P → Normal (Periodic P x) a → Holds (disjunction P x a) ρ ↔ Holds (Some x a) ρ
+  unfolding disjunction disjuncts Holds fars nears
+  disjunction-cooper p d =
+      Iff·trans (any-of-holds (for-each 1 P fars ++ for-each 1 P nears) ρ)
+      (Iff·trans (any-append (λ d. Holds d ρ) (for-each 1 P fars) (for-each 1 P nears))
+      (Iff·trans (⊎-iff any-far any-near)
+      (Iff·symm (cooper (body-cooper x ρ g P bs a n d (bounds-among x (UnitFactor x) a n) p)))))
+
+pub cooper-theorem : CooperTheorem
+cooper-theorem P x a g p u d ρ = disjunction-cooper P x a g u ρ p d
+
+-- ---- the period is such a P
+
+divisors-positive : (t : Test) (s : Sum) → DivisorOf (λ k. 0 < k) t → All (λ k. 0 < k) (divisor-of t s)
+unfolding All
+divisors-positive positive s h = tt
+divisors-positive (divisible b k) s h = (h, tt)
+divisors-positive is-zero s h = tt
+
+periodic-literal : (P x : ℕ) (t : Test) (s : Sum) → All (λ k. Divides k (pos P)) (divisor-of t s) → Periodic P x t s
+unfolding All
+periodic-literal P x positive s h = tt
+periodic-literal P x (divisible b k) s h = inr (h .0)
+periodic-literal P x is-zero s h = tt
+
+pub disjunction-keeps : DisjunctionKeeps
+unfolding period
+disjunction-keeps x a g u e =
+    let n : Normal (λ t s. DivisorOf (λ k. 0 < k) t) a = each-normal (UnitFactor x) (λ t s. DivisorOf (λ k. 0 < k) t) a u e in
+    let l : List ℕ = gather divisor-of a in
+    cooper-theorem (lcms l) x a g
+    (lcms-pos l (gathered-all divisor-of (λ t s. DivisorOf (λ k. 0 < k) t) (λ k. 0 < k) divisors-positive a n))
+    u
+    (normal-imp (λ t s. All (λ k. Divides k (pos (lcms l))) (divisor-of t s)) (Periodic (lcms l) x) (periodic-literal (lcms l) x) a
+    (all-gathered divisor-of (UnitFactor x) (λ k. Divides k (pos (lcms l))) a u (lcms-divided l)))
