@@ -184,12 +184,12 @@ put-fold o (here e) h = here e
 put-fold {q = q} {x = x} {a = a} {new = new} o (in-left {j = j} {r = r} {s = s} {b = b} p e) h =
     let k : Put q x a (fold new) r (fold s) = put-fold o p (h .2) in
     let stays : fold-join j (fold s) (fold b) ≡ Join j (fold s) b =
-      ap (fold-join j (fold s)) (fold-folded b (h .3)) ∙ join-open j (fold s) b (put-open o k) (h .1) in
+    ap (fold-join j (fold s)) (fold-folded b (h .3)) ∙ join-open j (fold s) b (put-open o k) (h .1) in
     subst (Put q x a (fold new) (Join j r b)) (sym stays) (in-left k e)
 put-fold {q = q} {x = x} {a = a} {new = new} o (in-right {j = j} {b = b} {r = r} {s = s} p) h =
     let k : Put q x a (fold new) r (fold s) = put-fold o p (h .3) in
     let stays : fold-join j (fold b) (fold s) ≡ Join j b (fold s) =
-      ap (λ c. fold-join j c (fold s)) (fold-folded b (h .2)) ∙ join-open j b (fold s) (h .0) (put-open o k) in
+    ap (λ c. fold-join j c (fold s)) (fold-folded b (h .2)) ∙ join-open j b (fold s) (h .0) (put-open o k) in
     subst (Put q x a (fold new) (Join j b r)) (sym stays) (in-right k)
 put-fold {q = q} {x = x} {a = a} {new = new} o (in-not {r = r} {s = s} p) h =
     let k : Put q x a (fold new) r (fold s) = put-fold o p (h .1) in

@@ -7,3 +7,5 @@ pub mod NormalForm
 pub mod OverLiterals
 pub mod CommonFactor
 pub mod Disjunction
+pub mod Shapes
+pub mod Freedom
