@@ -86,7 +86,7 @@ sum-found i us t b d ws p e =
 
 divisor-found : (i k : ℕ) (b : Bool) → ((n : ℕ) (s : Sum) → pos k ∷ pos n ∷ s ≡ body i (literal-node (divisible b n) s))
     → Found i k (divisor-and-sum b)
-unfolding Found divisor-and-sum is-divisor
+unfolding Found divisor-and-sum
 divisor-found i k b w ws p e =
     let c = parts (checked is-divisor ws) _ e in
     let (n, vs) = c .0 in
@@ -96,7 +96,7 @@ divisor-found i k b w ws p e =
 
 setting-found : (i k : ℕ) (q : Quantifier) → ((v : ℕ) → pos k ∷ pos v ∷ [] ≡ body i (bind-node q v))
     → Found i k (setting-of q)
-unfolding Found setting-of is-setting Good
+unfolding Found setting-of Good
 setting-found i k q b ws p e =
     let c = parts (checked is-setting ws) _ e in
     let (v, vs) = c .0 in
@@ -222,7 +222,7 @@ table-forth n ws es bs ds c w =
 
 pub decode-forth : (ws : List ℤ) (r : Rule) → decode ws ≡ given r
     → (ws ≡ encode r) × WellFormed r × (size r ≤ most-words)
-unfolding decode encode size AllGood Written
+unfolding decode size Written
 decode-forth [] r e = never e
 decode-forth (negsuc n ∷ ws) r e = never e
 decode-forth (pos n ∷ ws) r e =

@@ -14,7 +14,7 @@ use Rattle.whole.proofs.Difference.{z2, zz}
 use Rattle.rules.specs.Sum.{limit, all-within}
 use Rattle.rules.specs.Rule.{and, or, for-some, for-all, Test, positive, divisible, is-zero, Rule, Constant, Join, Not, Literal, Bind}
 use Rattle.rules.specs.Result.{given}
-use Rattle.rules.specs.Table.{Node, constant-node, join-node, not-node, literal-node, bind-node, most-words, body, width, count, nodes, bodies, starts, table, encode, size, is-setting, is-divisor}
+use Rattle.rules.specs.Table.{Node, constant-node, join-node, not-node, literal-node, bind-node, most-words, body, width, count, nodes, bodies, starts, size, is-setting, is-divisor}
 use Rattle.rules.specs.Decode.{cut, checked, sum-of, divisor-and-sum, node, read, trees, decode}
 use Rattle.rules.specs.Laws.{Each, InTable, WellFormed, DecodeEncode}
 use Rattle.rules.proofs.Refusals.{then, passed}
@@ -119,7 +119,7 @@ trees-nodes (Bind q v a) ds f e = then _ (trees-nodes a ds f e)
 -- ---- the table
 
 pub decode-encode : DecodeEncode
-unfolding decode encode size table
+unfolding decode size
 decode-encode r w h =
     let ds : List Node = nodes r in
     let n : ℕ = length ds in

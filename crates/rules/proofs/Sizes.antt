@@ -91,12 +91,18 @@ total-nodes (Not a) ds = omega (arith, total-nodes a ds)
 total-nodes (Literal t s) ds = refl
 total-nodes (Bind q v a) ds = omega (arith, total-nodes a ds)
 
+pub weight-is : (r : Rule) → total (nodes r) ≡ weight r
+unfolding total
+weight-is r =
+    let h : total (nodes r) ≡ weight r + 0 = rw (append-nil (nodes r)) at (total-nodes r []) in
+    omega arith
+
 -- ---- the table
 
 pub size-is : (r : Rule) → size r ≡ 1 + count r + weight r
-unfolding size total
+unfolding size
 size-is r =
     let ds : List Node = nodes r in
     let p : ℕ = length ds + 1 in
-    let bodies-words : total ds ≡ weight r + 0 = rw (append-nil ds) at (total-nodes r []) in
-    omega (arith, length-append (starts p ds) (bodies 0 ds), length-starts p ds, length-bodies 0 ds, length-nodes r)
+    let all = length-append (starts p ds) (bodies 0 ds) in
+    omega (arith, all, length-starts p ds, length-nodes r, length-bodies 0 ds, weight-is r)
