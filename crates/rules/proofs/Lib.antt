@@ -9,3 +9,7 @@ pub mod CommonFactor
 pub mod Disjunction
 pub mod Shapes
 pub mod Freedom
+pub mod Sizes
+pub mod Encoding
+pub mod Decoding
+pub mod Bytes
