@@ -84,6 +84,11 @@ is-chosen (Bind p v a) h = go (quantified a) refl (is-chosen a)
     go true e f = f (unfold quantified in ltb→lt 0 (quantifiers a) (subst T (sym e) tt))
     go false e f = (p, v, a, refl)
 
+-- a quantifier over a quantifier-free body is chosen
+pub chosen-of-free : (q : Quantifier) (x : ℕ) (a : Rule) → QuantifierFree a → chosen (Bind q x a) ≡ the q x a
+unfolding chosen quantified
+chosen-of-free q x a e = ap (λ (n : ℕ). elim (ltb 0 n) as (λ t. Chosen) [ true ↦ chosen a | false ↦ the q x a ]) e
+
 -- ---- what it keeps
 
 module _ {q : Quantifier} {x : ℕ} {a new : Rule} where

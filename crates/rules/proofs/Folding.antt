@@ -14,7 +14,7 @@ use Rattle.rules.specs.Sum.{Sum, Choice, with, factor, no-factors, value
 use Rattle.rules.specs.Rule.{Junction, and, or, Quantifier, Test, positive, divisible, is-zero, Rule, Constant, Join, Not, Literal, Bind, Joined, Passes, Holds, passes}
 use Rattle.rules.specs.Fold.{divisor-one, fold-literal, fold-not, Side, decides, drops, stays, constant-side, side, fold-sides, fold-join, fold}
 use Rattle.rules.specs.Chosen.{quantifiers}
-use Rattle.rules.specs.Laws.{FoldKeeps}
+use Rattle.rules.specs.Laws.{QuantifierFree, FoldKeeps}
 use Rattle.rules.proofs.Sums.{value-no-factors}
 use Rattle.rules.proofs.Meaning.{joined-iff, whether-iff, ranges-iff, at-equal, passes-decides}
 
@@ -140,6 +140,17 @@ module _ (Q : Rule → Type 0) (by : ByParts Q) where
   keep-fold (Literal t s) h = cond-ind (no-factors s || divisor-one t) (Constant (passes t (factor 0 s))) (Literal t s) Q
       (λ c. by .constant (passes t (factor 0 s))) (λ c. h)
   keep-fold (Bind q v a) h = by .under-bind q v a (fold a) (keep-fold a) h
+
+pub free-by-parts : ByParts QuantifierFree
+unfolding quantifiers
+free-by-parts = record {
+  constant = λ b. omega arith;
+  join = λ j a b h k. omega arith;
+  left = λ j a b h. omega arith;
+  right = λ j a b h. omega arith;
+  under-not = λ a b f h. f h;
+  under-bind = λ q v a b f h. absurd (omega arith);
+}
 
 -- ---- folding makes no quantifier
 

@@ -9,6 +9,7 @@ pub mod CommonFactor
 pub mod Disjunction
 pub mod Shapes
 pub mod Freedom
+pub mod Soundness
 pub mod Sizes
 pub mod Encoding
 pub mod Decoding
