@@ -10,6 +10,7 @@ pub mod Disjunction
 pub mod Shapes
 pub mod Freedom
 pub mod Soundness
+pub mod Verdicts
 pub mod Sizes
 pub mod Encoding
 pub mod Decoding

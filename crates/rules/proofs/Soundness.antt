@@ -216,7 +216,7 @@ common-state room r₀ r f x a s n h =
       frees = λ v g. some-scaled-frees v g (common-factor x a) x a n;
     }
 
-disjunction-serves : (x : ℕ) (a : Rule) → T (is-setting (pos x)) → Normal (UnitFactor x) a → Each Shape a → Serves for-some x a (disjunction (period a) x a) × QuantifierFree (disjunction (period a) x a)
+pub disjunction-serves : (x : ℕ) (a : Rule) → T (is-setting (pos x)) → Normal (UnitFactor x) a → Each Shape a → Serves for-some x a (disjunction (period a) x a) × QuantifierFree (disjunction (period a) x a)
 disjunction-serves x a t u h = (
   record {
     shape = normal-each Shape new m;
