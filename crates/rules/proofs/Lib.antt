@@ -15,3 +15,4 @@ pub mod Sizes
 pub mod Encoding
 pub mod Decoding
 pub mod Bytes
+pub mod Outcomes

@@ -5,17 +5,18 @@ use mathlib.Core.Logic.{_↔_, _⊎_, inl, inr, Iff·rfl, Iff·trans, Iff·not, 
 use mathlib.Core.Bool.{Bool, true, false, not}
 use Prim.Native.Nat.{ℕ, suc, _+_}
 use native.Mathlib.Omega.{arith}
-use lib.Dec.{T}
+use lib.Dec.{T, nltb→le}
 use lib.IntN.{ℤ, pos}
 use Rattle.whole.specs.Divides.{Divides, divides}
 use Rattle.whole.proofs.Tests.{T-and, T-or, T-no, T-dec, eqZ→eq, eq→eqZ}
 use Rattle.whole.proofs.Lists.{⊎-iff}
 use Rattle.whole.proofs.Divisibility.{divides-test}
-use Rattle.rules.specs.Sum.{Sum, Choice, with, value}
+use Rattle.rules.specs.Sum.{Sum, Choice, with, value, all-within}
 use Rattle.rules.specs.Rule.{Junction, and, or, Quantifier, for-some, for-all, Test, positive, divisible, is-zero, Rule, Constant, Join, Not, Literal, Bind, Joined, Whether, Ranges, Passes, Holds, whether, passes}
-use Rattle.rules.specs.Chosen.{quantifiers}
-use Rattle.rules.specs.Match.{joined, holds}
-use Rattle.rules.specs.Laws.{Same, QuantifierFree, HoldsDecides, ForAllKeeps}
+use Rattle.rules.specs.Chosen.{quantifiers, quantified}
+use Rattle.rules.specs.Match.{joined, holds, choice, most-value, matching}
+use Rattle.rules.specs.Laws.{Same, QuantifierFree, HoldsDecides, MatchingRight, ForAllKeeps}
+use Rattle.rules.proofs.Refusals.{given-inj, required}
 
 -- ---- equal parts, equal wholes
 
@@ -86,6 +87,16 @@ dec-iff h (no f) = no (λ b. f (h .1 b))
 
 pub decided : (a : Rule) (ρ : Choice) → QuantifierFree a → Dec (Holds a ρ)
 decided a ρ e = dec-iff (holds-decides a ρ e) (T-dec (holds a ρ))
+
+pub matching-right : MatchingRight
+unfolding matching
+matching-right vs a b e =
+    let (q, e₁) = required (not (quantified a)) 10 _ e in
+    let (w, e₂) = required (all-within most-value vs) 9 _ e₁ in
+    subst (λ (c : Bool). T c ↔ Holds a (choice vs)) (given-inj e₂) (holds-decides a (choice vs) (none q))
+  where
+    none : T (not (quantified a)) → QuantifierFree a
+    none q = unfold quantified in omega (arith, nltb→le 0 (quantifiers a) q)
 
 -- ---- the for-all
 

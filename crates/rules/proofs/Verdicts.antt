@@ -189,7 +189,7 @@ others-formed v [] a h w = w
 others-formed v (u ∷ ws) a h w = cond-ind (eqb u v) (others v ws) (u ∷ others v ws) (λ (l : List ℕ). WellFormed (some-of-each l a))
     (λ t. others-formed v ws a (h .1) w) (λ t. (h .0, others-formed v ws a (h .1) w))
 
-question-formed : (v : ℕ) (a : Rule) → T (is-setting (pos v)) → WellFormed a → WellFormed (question v a)
+pub question-formed : (v : ℕ) (a : Rule) → T (is-setting (pos v)) → WellFormed a → WellFormed (question v a)
 unfolding question
 question-formed v a t w = others-formed v all-settings (sides v a) (unfold All is-setting in (tt, (tt, (tt, (tt, (tt, (tt, tt))))))) (unfold Each in ((t, w), (t, w)))
 
@@ -224,7 +224,7 @@ may-go v a w n ρ x y = (alike x y, alike y x)
       | no f ↦ absurd (n ρ (some-each-in (others v all-settings) (sides v a) ρ ((x, h), (y, f))))
     ]
 
-natural : (v : ℤ) → T (is-setting v) → T (is-setting (pos (natAbs v)))
+pub natural : (v : ℤ) → T (is-setting v) → T (is-setting (pos (natAbs v)))
 unfolding is-setting
 natural (pos v) t = t
 natural (negsuc v) t = absurd t

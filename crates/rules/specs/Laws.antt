@@ -19,7 +19,7 @@ use Rattle.rules.specs.Chosen.{Chosen, the, chosen, quantifiers, replace
 use Rattle.rules.specs.Steps.{by-some, normal, common-factor, scaled, period, disjunction}
 use Rattle.rules.specs.Eliminate.{eliminate}
 use Rattle.rules.specs.LeaveOff.{leave-off}
-use Rattle.rules.specs.Match.{holds}
+use Rattle.rules.specs.Match.{holds, choice, matching}
 use Rattle.rules.specs.Answer.{occurs}
 use Rattle.rules.specs.Calls.{Outcome, outcome, eliminated, left-off, rule-of, room}
 
@@ -94,6 +94,9 @@ FoldKeeps = (a : Rule) → Same (fold a) a
 
 abbrev pub HoldsDecides : Type 0
 HoldsDecides = (a : Rule) (ρ : Choice) → QuantifierFree a → T (holds a ρ) ↔ Holds a ρ
+
+abbrev pub MatchingRight : Type 0
+MatchingRight = (vs : List ℤ) (a : Rule) (b : Bool) → matching vs a ≡ given b → T b ↔ Holds a (choice vs)
 
 -- what has the meaning of the chosen quantifier may take its place
 abbrev pub ReplaceKeeps : Type 0
