@@ -1,8 +1,9 @@
--- "An answer holds its number, a verdict (1 true, 2 false, 3 open), the words of the result, and a set of settings that occur in it".
+-- "An answer holds its number, a verdict (1 true, 2 false, 3 open), the words of the result,
+-- and a set of settings that occur in it".
 -- Assumes nothing.
 use mathlib.Core.Bool.{Bool, true, false, cond}
 use mathlib.Core.List.{List, [], _∷_}
-use Prim.Native.Nat.{ℕ, zero, suc, _+_, _-_, _^_}
+use Prim.Native.Nat.{ℕ, _+_, _-_, _^_}
 use Rattle.rules.specs.Sum.{has}
 use Rattle.rules.specs.Rule.{Rule, Constant, Join, Not, Literal, Bind}
 use Rattle.rules.specs.Result.{Result, refused, given}

@@ -1,6 +1,7 @@
--- The three calls on "byte slices of little-endian 32-bit words": the whole outcome, which is the answer and every lent byte afterwards.
+-- The three calls on "byte slices of little-endian 32-bit words": each one's whole outcome,
+-- which is the answer and every lent byte afterwards.
 -- Assumes nothing.
-use mathlib.Core.Bool.{Bool, cond}
+use mathlib.Core.Bool.{cond}
 use mathlib.Core.List.{List, [], _∷_, _++_}
 use Prim.Native.Nat.{ℕ, _+_, _*_, _-_, _/_, _%_, min}
 use lib.Dec.{ltb}
@@ -58,8 +59,8 @@ unfolding encode bytes-of
 table-bytes (refused n) = []
 table-bytes (given r) = bytes-of (encode r)
 
--- "An answered call leaves the table at the start of the output buffer, zeros after it, and zeros in the whole work buffer;
--- a refused one leaves zeros in both."
+-- "An answered call leaves the table at the start of the output buffer, zeros after it, and zeros
+-- in the whole work buffer; a refused one leaves zeros in both."
 unfoldable pub outcome : ℕ → ℕ → Result Rule → Outcome
 unfolding table-answer table-bytes
 outcome out work r =

@@ -9,9 +9,11 @@ use lib.IntN.{ℤ, pos, negsuc, natAbs, _-ℤ_}
 use lib.ListN.{length, getD}
 use Rattle.whole.specs.Integers.{eqZ}
 use Rattle.rules.specs.Sum.{Sum, limit, all-within}
-use Rattle.rules.specs.Rule.{Junction, and, or, Quantifier, for-some, for-all, Test, positive, divisible, is-zero, Rule, Constant, Join, Not, Literal, Bind}
+use Rattle.rules.specs.Rule.{Junction, and, or, Quantifier, for-some, for-all, Test, positive, divisible, is-zero}
+use Rattle.rules.specs.Rule.{Rule, Constant, Join, Not, Literal, Bind}
 use Rattle.rules.specs.Result.{Result, refused, given, _>>=_, require}
-use Rattle.rules.specs.Table.{Node, constant-node, join-node, not-node, literal-node, bind-node, most-words, width, count, is-setting, is-divisor}
+use Rattle.rules.specs.Table.{Node, constant-node, join-node, not-node, literal-node, bind-node}
+use Rattle.rules.specs.Table.{most-words, width, count, is-setting, is-divisor}
 
 -- ---- fields: each is read from the start of the words, and leaves the words after it
 

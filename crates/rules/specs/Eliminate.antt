@@ -5,7 +5,7 @@ use Prim.Native.Nat.{ℕ, zero, suc}
 use lib.Dec.{leb, ltb}
 use Rattle.rules.specs.Sum.{Sum, limit, all-within}
 use Rattle.rules.specs.Rule.{Quantifier, for-some, for-all, Test, positive, divisible, is-zero, Rule, Some}
-use Rattle.rules.specs.Result.{Result, refused, given, _>>=_, require}
+use Rattle.rules.specs.Result.{Result, given, _>>=_, require}
 use Rattle.rules.specs.Table.{size}
 use Rattle.rules.specs.Fold.{fold}
 use Rattle.rules.specs.Chosen.{Chosen, nothing, the, chosen, quantifiers, quantified, replace}
@@ -39,7 +39,10 @@ on-chosen r (the q x a) step = step q x a
 -- "A for-all is first replaced by not, for some, not: a step table of its own."
 unfoldable pub for-all-step : ℕ → Rule → Result Rule
 unfolding on-chosen chosen replace step-table
-for-all-step room r = on-chosen r (chosen r) (λ q x a. elim q [ for-some ↦ given r | for-all ↦ step-table room (replace (by-some x a) r) ])
+for-all-step room r = on-chosen r (chosen r) (λ q x a. elim q [
+  | for-some ↦ given r
+  | for-all ↦ step-table room (replace (by-some x a) r)
+])
 
 unfoldable pub normal-step : ℕ → Rule → Result Rule
 unfolding on-chosen chosen replace step-table normal

@@ -1,10 +1,11 @@
--- "Folding goes from the leaves to the root": what becomes a truth value, and what a truth value does to what stands around it.
+-- "Folding goes from the leaves to the root": what becomes a truth value, and what a truth value does
+-- to what stands around it.
 -- Assumes nothing.
 use mathlib.Core.Bool.{Bool, true, false, not, cond, _||_}
-use Prim.Native.Nat.{ℕ}
 use lib.Dec.{eqb}
 use Rattle.rules.specs.Sum.{Sum, factor, no-factors}
-use Rattle.rules.specs.Rule.{Junction, and, or, Test, positive, divisible, is-zero, Rule, Constant, Join, Not, Literal, Bind, passes}
+use Rattle.rules.specs.Rule.{Junction, and, or, Test, positive, divisible, is-zero}
+use Rattle.rules.specs.Rule.{Rule, Constant, Join, Not, Literal, Bind, passes}
 
 -- "A literal whose a's are all zero becomes its truth value. Divisor 1 makes kind 6 true and kind 7 false":
 -- 1 divides every number, so that is the truth value too

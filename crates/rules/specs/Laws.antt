@@ -1,27 +1,29 @@
--- What is proved of the definitions, each law as a readable type; the proofs are in proofs/, under the names given here.
+-- What is proved of the definitions, each law as a readable type; its proof in proofs/ has the law's name in small
+-- letters.
 -- Assumes nothing.
 use mathlib.Core.Path.{_≡_}
 use mathlib.Core.Logic.{_↔_, _⊎_}
-use mathlib.Core.Bool.{Bool, true, false, not, _&&_, _||_}
+use mathlib.Core.Bool.{Bool, false, not, _&&_, _||_}
 use mathlib.Core.List.{List}
 use Prim.Native.Nat.{ℕ, _≤_, _<_}
 use lib.Dec.{T, eqb}
-use lib.IntN.{ℤ, pos, negsuc, natAbs}
+use lib.IntN.{ℤ, pos, natAbs}
 use lib.ListN.{length}
 use Rattle.whole.specs.Divides.{Divides}
 use Rattle.rules.specs.Sum.{Sum, Choice, with, factor, has, limit, all-within}
-use Rattle.rules.specs.Rule.{Quantifier, for-some, for-all, Test, positive, divisible, is-zero, Rule, Constant, Join, Not, Literal, Bind, True, False, Some, All, Whether, Holds}
-use Rattle.rules.specs.Result.{Result, refused, given, _>>=_}
+use Rattle.rules.specs.Rule.{Quantifier, Test, positive, divisible, is-zero}
+use Rattle.rules.specs.Rule.{Rule, Constant, Join, Not, Literal, Bind, True, False, Some, All, Whether, Holds}
+use Rattle.rules.specs.Result.{given}
 use Rattle.rules.specs.Table.{most-words, encode, size, is-setting, is-divisor}
 use Rattle.rules.specs.Decode.{decode}
 use Rattle.rules.specs.Fold.{fold}
-use Rattle.rules.specs.Chosen.{Chosen, the, chosen, quantifiers, replace}
+use Rattle.rules.specs.Chosen.{the, chosen, quantifiers, replace}
 use Rattle.rules.specs.Steps.{by-some, normal, common-factor, scaled, period, disjunction}
 use Rattle.rules.specs.Eliminate.{eliminate}
 use Rattle.rules.specs.LeaveOff.{leave-off}
 use Rattle.rules.specs.Match.{holds, choice, matching}
 use Rattle.rules.specs.Answer.{occurs}
-use Rattle.rules.specs.Calls.{Outcome, outcome, eliminated, left-off, rule-of, room}
+use Rattle.rules.specs.Calls.{Outcome, eliminated, left-off, room}
 
 -- ---- words that the laws use
 
@@ -100,23 +102,28 @@ MatchingRight = (vs : List ℤ) (a : Rule) (b : Bool) → matching vs a ≡ give
 
 -- what has the meaning of the chosen quantifier may take its place
 abbrev pub ReplaceKeeps : Type 0
-ReplaceKeeps = (new r : Rule) (q : Quantifier) (x : ℕ) (a : Rule) → chosen r ≡ the q x a → Same new (Bind q x a) → Same (replace new r) r
+ReplaceKeeps = (new r : Rule) (q : Quantifier) (x : ℕ) (a : Rule)
+    → chosen r ≡ the q x a → Same new (Bind q x a) → Same (replace new r) r
 
 abbrev pub ForAllKeeps : Type 0
 ForAllKeeps = (x : ℕ) (a : Rule) → QuantifierFree a → Same (by-some x a) (All x a)
 
 abbrev pub NormalKeeps : Type 0
-NormalKeeps = (plainly : Bool) (x : ℕ) (a : Rule) → QuantifierFree a → (ρ : Choice) → Holds (normal plainly x a) ρ ↔ Whether plainly (Holds a ρ)
+NormalKeeps = (plainly : Bool) (x : ℕ) (a : Rule) → QuantifierFree a
+    → (ρ : Choice) → Holds (normal plainly x a) ρ ↔ Whether plainly (Holds a ρ)
 
 abbrev pub CommonFactorKeeps : Type 0
-CommonFactorKeeps = (x : ℕ) (a : Rule) → 1 ≤ x → Normal NoZero a → Same (Some x (scaled (common-factor x a) x a)) (Some x a)
+CommonFactorKeeps = (x : ℕ) (a : Rule) → 1 ≤ x → Normal NoZero a
+    → Same (Some x (scaled (common-factor x a) x a)) (Some x a)
 
 -- Cooper's theorem, over any positive multiple P of the divisors that stand with x
 abbrev pub CooperTheorem : Type 0
-CooperTheorem = (P x : ℕ) (a : Rule) → 1 ≤ x → 0 < P → Normal (UnitFactor x) a → Normal (Periodic P x) a → Same (disjunction P x a) (Some x a)
+CooperTheorem = (P x : ℕ) (a : Rule) → 1 ≤ x → 0 < P → Normal (UnitFactor x) a → Normal (Periodic P x) a
+    → Same (disjunction P x a) (Some x a)
 
 abbrev pub DisjunctionKeeps : Type 0
-DisjunctionKeeps = (x : ℕ) (a : Rule) → 1 ≤ x → Normal (UnitFactor x) a → Each (λ t s. DivisorOf (λ k. 0 < k) t) a → Same (disjunction (period a) x a) (Some x a)
+DisjunctionKeeps = (x : ℕ) (a : Rule) → 1 ≤ x → Normal (UnitFactor x) a → Each (λ t s. DivisorOf (λ k. 0 < k) t) a
+    → Same (disjunction (period a) x a) (Some x a)
 
 -- ---- elimination is sound
 

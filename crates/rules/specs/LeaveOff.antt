@@ -1,6 +1,6 @@
 -- "Leave-off test for v on rule F": its question, and the test.
 -- Assumes nothing.
-use mathlib.Core.Bool.{Bool, true, false, cond}
+use mathlib.Core.Bool.{cond}
 use mathlib.Core.List.{List, [], _∷_}
 use Prim.Native.Nat.{ℕ}
 use lib.Dec.{eqb, leb}
@@ -22,12 +22,14 @@ unfoldable pub some-of-each : List ℕ → Rule → Rule
 some-of-each [] a = a
 some-of-each (w ∷ ws) a = Some w (some-of-each ws a)
 
--- "for some of each other setting, in rising order from the outside, the and of (for some v, F) and (for some v, not F)"
+-- "for some of each other setting, in rising order from the outside,
+-- the and of (for some v, F) and (for some v, not F)"
 unfoldable pub question : ℕ → Rule → Rule
 unfolding others some-of-each
 question v a = some-of-each (others v all-settings) (And (Some v a) (Some v (Not a)))
 
--- "leave-off setting is not 1 to 6" (8). "It is the first table given to elimination and must fit the room before folding (6)."
+-- "leave-off setting is not 1 to 6" (8). "It is the first table given to elimination and must fit the room
+-- before folding (6)."
 unfoldable pub leave-off : ℕ → ℤ → Rule → Result Rule
 unfolding is-setting question eliminate size require _>>=_
 leave-off room v a =

@@ -1,9 +1,9 @@
 -- The literals of a rule in node order: one asked for, what each gives gathered, each made anew.
 -- Assumes nothing.
-use mathlib.Core.Bool.{Bool, true, false, _||_}
+use mathlib.Core.Bool.{Bool, false, _||_}
 use mathlib.Core.List.{List, [], _++_}
 use Rattle.rules.specs.Sum.{Sum}
-use Rattle.rules.specs.Rule.{Junction, Quantifier, Test, Rule, Constant, Join, Not, Literal, Bind}
+use Rattle.rules.specs.Rule.{Test, Rule, Constant, Join, Not, Literal, Bind}
 
 unfoldable pub some-literal : (Test → Sum → Bool) → Rule → Bool
 some-literal p (Constant b) = false

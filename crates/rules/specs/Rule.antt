@@ -1,5 +1,5 @@
--- A rule is the tree that a table stands for, with a constructor for each line of the paper's kinds, the literals under one
--- with the test that they make of their T. Its meaning at a choice is a type.
+-- A rule is the tree that a table stands for, with a constructor for each line of the paper's kinds, the literals
+-- under one with the test that they make of their T. Its meaning at a choice is a type.
 -- Assumes nothing.
 use mathlib.Core.Path.{_≡_}
 use mathlib.Core.Logic.{_⊎_}

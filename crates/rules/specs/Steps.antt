@@ -7,8 +7,10 @@ use Prim.Native.Nat.{ℕ, zero, suc, _*_, _/_}
 use lib.IntN.{ℤ, pos, negsuc, natAbs}
 use Rattle.whole.specs.Integers.{eqZ}
 use Rattle.whole.specs.Multiples.{lcms}
-use Rattle.rules.specs.Sum.{Sum, factor, has, add, scale, negate, put, number, setting, one-plus, one-minus, same}
-use Rattle.rules.specs.Rule.{Junction, and, or, Test, positive, divisible, is-zero, Rule, Constant, Join, Not, Literal, Bind, True, False, And, Or, Some, whether}
+use Rattle.rules.specs.Sum.{Sum, factor, has, add, scale, negate, put, number, setting}
+use Rattle.rules.specs.Sum.{one-plus, one-minus, same}
+use Rattle.rules.specs.Rule.{Junction, and, or, Test, positive, divisible, is-zero}
+use Rattle.rules.specs.Rule.{Rule, Constant, Join, Not, Literal, Bind, True, False, And, Or, Some, whether}
 use Rattle.rules.specs.Literals.{gather, map-literals}
 
 -- ---- "A for-all is first replaced by not, for some, not"
@@ -119,7 +121,9 @@ bounds x a = once (gather (bound-of x) a)
 
 -- "The far-left body has true for 0 < −x+r, false for 0 < x+r."
 unfoldable pub far-literal : ℕ → Test → Sum → Rule
-far-literal x positive s = cond (eqZ (factor x s) (pos 1)) False (cond (eqZ (factor x s) (negsuc 0)) True (Literal positive s))
+far-literal x positive s =
+    let f = factor x s in
+    cond (eqZ f (pos 1)) False (cond (eqZ f (negsuc 0)) True (Literal positive s))
 far-literal x (divisible b k) s = Literal (divisible b k) s
 far-literal x is-zero s = Literal is-zero s
 

@@ -1,4 +1,5 @@
--- "T is c + a1·s1 + .. + a6·s6": a sum T, written s here, is the list of its seven words as they stand in a table, c first.
+-- "T is c + a1·s1 + .. + a6·s6": a sum T, written s here, is the list of its seven words as they stand
+-- in a table, c first.
 -- The operations take lists of any length, a missing word being 0, so that their laws ask nothing.
 -- Assumes nothing.
 use mathlib.Core.Bool.{Bool, true, false, not, _&&_, cond}

@@ -2,12 +2,13 @@
 -- Assumes nothing.
 use mathlib.Core.Bool.{Bool, true, false, _&&_}
 use mathlib.Core.List.{List, [], _∷_, _++_}
-use Prim.Native.Nat.{ℕ, suc, _+_}
+use Prim.Native.Nat.{ℕ, _+_}
 use lib.Dec.{leb}
 use lib.IntN.{ℤ, pos, negsuc, _+ℤ_}
 use lib.ListN.{length}
 use Rattle.rules.specs.Sum.{Sum, limit}
-use Rattle.rules.specs.Rule.{Junction, and, or, Quantifier, for-some, for-all, Test, positive, divisible, is-zero, Rule, Constant, Join, Not, Literal, Bind}
+use Rattle.rules.specs.Rule.{Junction, and, or, Quantifier, for-some, for-all, Test, positive, divisible, is-zero}
+use Rattle.rules.specs.Rule.{Rule, Constant, Join, Not, Literal, Bind}
 
 -- "At most 16,384 words."
 abbrev pub most-words : ℕ
