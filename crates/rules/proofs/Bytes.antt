@@ -1,11 +1,11 @@
 -- Words and their bytes: a table's words are read back from its bytes, and so a rule is.
 -- Assumes nothing.
-use mathlib.Core.Path.{_≡_, refl, sym, ap, _∙_, subst}
+use mathlib.Core.Path.{_≡_, refl, sym, ap, ap₂, _∙_, subst}
 use mathlib.Core.Bool.{true, false}
 use mathlib.Core.List.{List, [], _∷_, _++_, append-assoc, append-nil}
 use Prim.Native.Nat.{ℕ, suc, _+_, _*_, _-_, _/_, _%_, _≤_}
 use native.Mathlib.Omega.{arith}
-use lib.Dec.{T, ltb, leb, leb→le, le→leb, ltb→lt, nltb→le}
+use lib.Dec.{T, eqb, ltb, leb, leb→le, le→leb, ltb→lt, nltb→le}
 use lib.IntN.{ℤ, pos, negsuc, _+ℤ_}
 use lib.ListN.{length}
 use Rattle.whole.specs.Integers.{within}
@@ -15,10 +15,10 @@ use Rattle.rules.specs.Rule.{and, or, for-some, for-all, positive, divis
 use Rattle.rules.specs.Result.{given}
 use Rattle.rules.specs.Table.{Node, constant-node, join-node, not-node, literal-node, bind-node, most-words, body, width, count, nodes, bodies, starts, encode, size, is-setting, is-divisor}
 use Rattle.rules.specs.Decode.{decode}
-use Rattle.rules.specs.Calls.{signed, bits, words-of, bytes-of, rule-of}
+use Rattle.rules.specs.Calls.{signed, bits, words, bytes-of, rule-of}
 use Rattle.rules.specs.Laws.{Each, WellFormed}
-use Rattle.rules.proofs.Refusals.{then, parts}
-use Rattle.rules.proofs.Sizes.{total, words, weight, length-body, length-nodes, weight-is, size-is}
+use Rattle.rules.proofs.Refusals.{then, passed, required}
+use Rattle.rules.proofs.Sizes.{total, words as words-in, weight, length-body, length-nodes, weight-is, size-is}
 use Rattle.rules.proofs.Encoding.{Good, decode-encode}
 use Rattle.rules.proofs.Decoding.{decode-forth}
 
@@ -47,13 +47,13 @@ four-bytes n h =
     let top : n / 16777216 % 256 ≡ n / 16777216 = omega arith in
     omega arith
 
-pub bytes-back : (ws : List ℤ) → T (all-within limit ws) → words-of (bytes-of ws) ≡ given ws
-unfolding words-of bytes-of all-within
+pub bytes-back : (ws : List ℤ) → T (all-within limit ws) → words (bytes-of ws) ≡ ws
+unfolding words bytes-of all-within
 bytes-back [] t = refl
 bytes-back (w ∷ ws) t =
     let h = T-and (within limit w) (all-within limit ws) .0 t in
     let word = ap signed (four-bytes (bits w) (bits-small w (h .0))) ∙ signed-bits w (h .0) in
-    then _ (bytes-back ws (h .1)) ∙ ap (λ z. given (z ∷ ws)) word
+    ap₂ _∷_ word (bytes-back ws (h .1))
 
 pub length-bytes : (ws : List ℤ) → length (bytes-of ws) ≡ 4 * length ws
 unfolding bytes-of
@@ -81,7 +81,7 @@ unfolding starts total all-within
 starts-within p [] h = tt
 starts-within p (d ∷ ds) h =
     let next : ℕ = p + width d in
-    let same : width d ≡ words d = unfold width in length-body 0 d in
+    let same : width d ≡ words-in d = unfold width in length-body 0 d in
     after (pos p) (starts next ds) (le→leb p limit (omega arith)) (starts-within next ds (omega arith))
 
 -- the right child of node i has a number within the limit
@@ -149,11 +149,16 @@ encode-within r w h =
 
 pub rule-back : (r : Rule) → WellFormed r → size r ≤ most-words → rule-of (bytes-of (encode r)) ≡ given r
 unfolding rule-of
-rule-back r w h = then decode (bytes-back (encode r) (encode-within r w h)) ∙ decode-encode r w h
+rule-back r w h =
+    let whole : length (bytes-of (encode r)) % 4 ≡ 0 = omega (arith, length-bytes (encode r)) in
+    then _ (passed (eqb (length (bytes-of (encode r)) % 4) 0) 1 (eq→eqb whole))
+    ∙ ap decode (bytes-back (encode r) (encode-within r w h)) ∙ decode-encode r w h
+  where
+    eq→eqb : {m : ℕ} → m ≡ 0 → T (eqb m 0)
+    eq→eqb e = subst (λ (n : ℕ). T (eqb n 0)) (sym e) tt
 
 pub rule-forth : (bytes : List ℕ) (r : Rule) → rule-of bytes ≡ given r → WellFormed r × (size r ≤ most-words)
 unfolding rule-of
 rule-forth bytes r e =
-    let p = parts (words-of bytes) decode e in
-    let k = decode-forth (p .0) r (p .2) in
+    let k = decode-forth (words bytes) r (required (eqb (length bytes % 4) 0) 1 _ e .1) in
     (k .1, k .2)

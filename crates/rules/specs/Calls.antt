@@ -4,11 +4,11 @@
 use mathlib.Core.Bool.{cond}
 use mathlib.Core.List.{List, [], _∷_, _++_}
 use Prim.Native.Nat.{ℕ, _+_, _*_, _-_, _/_, _%_, min}
-use lib.Dec.{ltb}
+use lib.Dec.{eqb, ltb}
 use lib.IntN.{ℤ, pos, negsuc}
 use lib.ListN.{length, replicate}
 use Rattle.rules.specs.Rule.{Rule}
-use Rattle.rules.specs.Result.{Result, refused, given, _>>=_}
+use Rattle.rules.specs.Result.{Result, refused, given, _>>=_, require}
 use Rattle.rules.specs.Table.{most-words, encode}
 use Rattle.rules.specs.Decode.{decode}
 use Rattle.rules.specs.Eliminate.{eliminate}
@@ -26,22 +26,22 @@ abbrev pub bits : ℤ → ℕ
 bits (pos n) = n
 bits (negsuc n) = 4294967295 - n
 
--- "byte length no multiple of 4" (1)
-unfoldable pub words-of : List ℕ → Result (List ℤ)
-unfolding _>>=_
-words-of [] = given []
-words-of (a ∷ []) = refused 1
-words-of (a ∷ b ∷ []) = refused 1
-words-of (a ∷ b ∷ c ∷ []) = refused 1
-words-of (a ∷ b ∷ c ∷ d ∷ l) = words-of l >>= λ ws. given (signed (a + 256 * (b + 256 * (c + 256 * d))) ∷ ws)
+-- the words of bytes, the low byte first; up to three bytes at the end are of none
+unfoldable pub words : List ℕ → List ℤ
+words [] = []
+words (a ∷ []) = []
+words (a ∷ b ∷ []) = []
+words (a ∷ b ∷ c ∷ []) = []
+words (a ∷ b ∷ c ∷ d ∷ l) = signed (a + 256 * (b + 256 * (c + 256 * d))) ∷ words l
 
 unfoldable pub bytes-of : List ℤ → List ℕ
 bytes-of [] = []
 bytes-of (w ∷ ws) = bits w % 256 ∷ bits w / 256 % 256 ∷ bits w / 65536 % 256 ∷ bits w / 16777216 % 256 ∷ bytes-of ws
 
+-- "byte length no multiple of 4" (1), then the table's own checks
 unfoldable pub rule-of : List ℕ → Result Rule
-unfolding words-of decode _>>=_
-rule-of table = words-of table >>= decode
+unfolding words decode require _>>=_
+rule-of table = require (eqb (length table % 4) 0) 1 >>= λ u. decode (words table)
 
 -- ---- what a call that makes a table leaves
 
