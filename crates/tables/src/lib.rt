@@ -1,0 +1,2 @@
+// A rule's table in lent bytes.
+pub mod words;
