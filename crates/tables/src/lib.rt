@@ -1,1 +1,2 @@
 // Tables in lent bytes.
+pub mod words;
