@@ -13,3 +13,5 @@ pub mod Match
 pub mod Answer
 pub mod Calls
 pub mod Laws
+pub mod Rows
+pub mod Examples
