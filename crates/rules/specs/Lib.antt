@@ -15,3 +15,4 @@ pub mod Calls
 pub mod Laws
 pub mod Rows
 pub mod Examples
+pub mod Edges

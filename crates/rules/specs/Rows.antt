@@ -1,13 +1,13 @@
 -- Rows: a row is a whole call on bytes beside everything that it leaves, and one test says whether a row is right.
 -- Assumes nothing.
 use mathlib.Core.Bool.{Bool, true, false, _&&_}
-use mathlib.Core.List.{List, [], _∷_, _++_, map}
+use mathlib.Core.List.{List, [], _∷_, map, zipWith}
 use Prim.Native.Nat.{ℕ, zero, suc, _*_, _-_, pred}
 use lib.Dec.{eqb}
-use lib.IntN.{ℤ, pos, negsuc}
-use lib.ListN.{length, replicate}
+use lib.IntN.{ℤ, pos, negsuc, _+ℤ_, _-ℤ_, _*ℤ_}
+use lib.ListN.{length}
 use Rattle.rules.specs.Sum.{Sum}
-use Rattle.rules.specs.Rule.{Quantifier, Test, positive, divisible, is-zero, Rule, Literal}
+use Rattle.rules.specs.Rule.{Quantifier, Test, positive, divisible, is-zero, Rule, Literal, Some}
 use Rattle.rules.specs.Result.{Result, refused, given, _>>=_}
 use Rattle.rules.specs.Table.{encode}
 use Rattle.rules.specs.Chosen.{Chosen, nothing, the, chosen}
@@ -56,14 +56,22 @@ same-numbers [] (b ∷ m) = false
 same-numbers (a ∷ l) [] = false
 same-numbers (a ∷ l) (b ∷ m) = elim (eqb a b) [ true ↦ same-numbers l m | false ↦ false ]
 
--- n bytes: those of a table, then zeros
-unfoldable pub lent : ℕ → List ℤ → List ℕ
-unfolding bytes-of
-lent n t = let bs = bytes-of t in bs ++ replicate (n - length bs) 0
+-- n bytes: these, then zeros
+unfoldable pub filled : ℕ → List ℕ → List ℕ → Bool
+filled zero [] [] = true
+filled zero [] (c ∷ l) = false
+filled zero (b ∷ bs) l = false
+filled (suc n) bs [] = false
+filled (suc n) [] (zero ∷ l) = filled n [] l
+filled (suc n) [] (suc c ∷ l) = false
+filled (suc n) (b ∷ bs) (c ∷ l) = elim (eqb b c) [ true ↦ filled n bs l | false ↦ false ]
 
 unfoldable pub leaves : Outcome → ℕ → ℕ → Expected → Bool
-unfolding same-numbers lent
-leaves o out work e = same-numbers (four (o .answer)) (four-expected e) && same-numbers (o .output) (lent out (table-expected e)) && same-numbers (o .work) (lent work [])
+unfolding same-numbers filled bytes-of
+leaves o out work e =
+    same-numbers (four (o .answer)) (four-expected e) &&
+    filled out (bytes-of (table-expected e)) (o .output) &&
+    filled work [] (o .work)
 
 unfoldable pub as-expected : Call → Expected → Bool
 unfolding eliminated left-off matched leaves same-numbers
@@ -73,15 +81,15 @@ as-expected (matching-of t a b c d f g) e = same-numbers (four (matched t a b c 
 
 -- ---- the test of D and P
 
--- what a number of the chosen quantifier is
+-- a number that is read off the chosen quantifier's setting and body
 unfoldable pub of-chosen : (ℕ → Rule → ℕ) → Result Rule → ℕ
 unfolding chosen
 of-chosen f (refused n) = 0
 of-chosen f (given r) = elim (chosen r) [ nothing ↦ 0 | the q x a ↦ f x a ]
 
--- words of room that serve for most rows
+-- words of room enough for most rows
 abbrev pub plenty : ℕ
-plenty = 400
+plenty = 128
 
 unfoldable pub D-and-P : Rule → List ℕ
 unfolding of-chosen step-table for-all-step normal-step common-step common-factor period _>>=_
@@ -89,10 +97,10 @@ D-and-P r =
     let after-1 = step-table plenty r >>= for-all-step plenty >>= normal-step plenty in
     of-chosen common-factor after-1 ∷ of-chosen (λ x a. period a) (after-1 >>= common-step plenty) ∷ []
 
--- ---- the one test over all rows
+-- ---- the one test over all rows (zipWith stands in the sums that rows are written with)
 
 unfoldable pub right : Row → Bool
-unfolding as-expected D-and-P same-numbers
+unfolding as-expected D-and-P same-numbers zipWith
 right (c gives e) = as-expected c e
 right (meets r D P) = same-numbers (D-and-P r) (D ∷ P ∷ [])
 
@@ -109,51 +117,61 @@ minus n = negsuc (pred n)
 abbrev pub words : List ℕ → List ℤ
 words ns = map pos ns
 
--- c + a·s1, c + a·s1 + b·s2, c + a·s1 + b·s2 + d·s3
-abbrev pub sum1 : ℤ → ℤ → Sum
-sum1 c a = c ∷ a ∷ words (0 ∷ 0 ∷ 0 ∷ 0 ∷ 0 ∷ [])
-
-abbrev pub sum2 : ℤ → ℤ → ℤ → Sum
-sum2 c a b = c ∷ a ∷ b ∷ words (0 ∷ 0 ∷ 0 ∷ 0 ∷ [])
-
-abbrev pub sum3 : ℤ → ℤ → ℤ → ℤ → Sum
-sum3 c a b d = c ∷ a ∷ b ∷ d ∷ words (0 ∷ 0 ∷ 0 ∷ [])
-
 -- "x is s1", "y is s2 and z is s3"
 abbrev pub x : Sum
-x = sum1 (pos 0) (pos 1)
+x = words (0 ∷ 1 ∷ 0 ∷ 0 ∷ 0 ∷ 0 ∷ 0 ∷ [])
 
 abbrev pub y : Sum
-y = sum2 (pos 0) (pos 0) (pos 1)
+y = words (0 ∷ 0 ∷ 1 ∷ 0 ∷ 0 ∷ 0 ∷ 0 ∷ [])
 
 abbrev pub z : Sum
-z = sum3 (pos 0) (pos 0) (pos 0) (pos 1)
+z = words (0 ∷ 0 ∷ 0 ∷ 1 ∷ 0 ∷ 0 ∷ 0 ∷ [])
 
+-- sums of them and of numbers: num 9 less 3 times x
+infixl 71 _plus_ _less_
+infix 72 _times_
+abbrev pub num : ℕ → Sum
+num n = words (n ∷ 0 ∷ 0 ∷ 0 ∷ 0 ∷ 0 ∷ 0 ∷ [])
+
+abbrev pub _plus_ : Sum → Sum → Sum
+_plus_ s t = zipWith (λ a b. a +ℤ b) s t
+
+abbrev pub _less_ : Sum → Sum → Sum
+_less_ s t = zipWith (λ a b. a -ℤ b) s t
+
+abbrev pub _times_ : ℕ → Sum → Sum
+_times_ k s = map (λ a. pos k *ℤ a) s
+
+-- literals
+infix 70 _divides_ _divides-not_
 abbrev pub Positive : Sum → Rule
 Positive s = Literal positive s
 
-abbrev pub IsZero : Sum → Rule
-IsZero s = Literal is-zero s
-
-infix 70 _divides_ _divides-not_
 abbrev pub _divides_ : ℕ → Sum → Rule
 _divides_ k s = Literal (divisible true k) s
 
 abbrev pub _divides-not_ : ℕ → Sum → Rule
 _divides-not_ k s = Literal (divisible false k) s
 
--- a call on a rule's table, with as many words of room in both buffers
+abbrev pub IsZero : Sum → Rule
+IsZero s = Literal is-zero s
+
+-- calls on a rule, with n words in both buffers
 abbrev pub eliminating : ℕ → Rule → Call
 eliminating n r = elimination (bytes-of (encode r)) (4 * n) (4 * n)
 
 abbrev pub leaving-off : ℕ → ℕ → Rule → Call
 leaving-off n v r = leave-off-test (pos v) (bytes-of (encode r)) (4 * n) (4 * n)
 
--- elimination of these words
-abbrev pub reading : List ℤ → Call
-reading ws = elimination (bytes-of ws) (4 * plenty) (4 * plenty)
+-- "for some s1 stands in front"
+abbrev pub some-x : Rule → Call
+some-x a = eliminating plenty (Some 1 a)
 
--- what is left: true, false, or a rule with these settings
+-- elimination of these words, in room 3
+abbrev pub reading : List ℤ → Call
+reading ws = elimination (bytes-of ws) 12 13
+
+-- what is left: true, false, or an open rule with these settings
 abbrev pub to-true : Expected
 to-true = answers 1 0 (words (1 ∷ 2 ∷ 1 ∷ []))
 
