@@ -38,6 +38,7 @@ reading-rows =
     reading (words (1 ∷ 2 ∷ [])) gives refuses 3 ∷
     -- a contents entry is not the right place
     reading (words (1 ∷ 3 ∷ 1 ∷ [])) gives refuses 2 ∷
+    reading (pos 1 ∷ minus 2 ∷ pos 1 ∷ []) gives refuses 2 ∷
     reading (pos 1 ∷ lowest ∷ pos 1 ∷ []) gives refuses 2 ∷
     reading (words (2 ∷ 3 ∷ 5 ∷ 4 ∷ 1 ∷ [])) gives refuses 2 ∷
     -- a word after the last body
@@ -199,6 +200,8 @@ limit-rows =
     eliminating 13 (Some 1 (IsZero (x less num 2147483647))) gives refuses 5 ∷
     -- a divisor that passes the limit: step 2 makes it 2·2,147,483,647
     some-x (And (Positive (2 times x)) (2147483647 divides x)) gives refuses 5 ∷
+    -- a factor that passes the limit: step 2 doubles that of y
+    some-x (And (Positive (x plus 2147483647 times y)) (Positive (2 times x))) gives refuses 5 ∷
     -- b+j is no literal: the bound is 2,147,483,647
     some-x one-minus-5 gives to-true ∷
     -- the numbers of a literal that folding removes, and of a disjunct beside a true one
