@@ -22,11 +22,13 @@ second = And (Or (Positive (num 9 less 3 times x)) (Positive (7 times x less num
 pub examples : List Row
 examples =
     -- "for some s1, 2·s1 = s2. Table 2,3,5,8,1,10,0,2,−1,0,0,0,0 becomes 1,2,6,2,0,0,1,0,0,0,0: 2 divides s2.
-    -- Room 38 answers, 37 gives 6."
+    -- Room 38 answers"
     elimination (bytes-of doubled) 152 152 gives answers 3 2 even ∷
+    -- "37 gives 6."
     elimination (bytes-of doubled) 148 148 gives refuses 6 ∷
-    -- "(3x+1 < 10 or 7x−6 > 7) and 2 divides x: true. D = 21, P = 42 (000)."
+    -- "(3x+1 < 10 or 7x−6 > 7) and 2 divides x: true."
     some-x second gives to-true ∷
+    -- "D = 21, P = 42 (000)."
     meets (Some 1 second) 21 42 ∷
     -- "2 does not divide x and 4 divides x: false."
     some-x (And (2 divides-not x) (4 divides x)) gives to-false ∷
@@ -36,14 +38,17 @@ examples =
     eliminating plenty (All 1 (Positive x)) gives to-false ∷
     -- "4097 divides x: 7."
     some-x (4097 divides x) gives refuses 7 ∷
-    -- "for some s1, not 0 < s1 − 2,147,483,646: true. P: with 2,147,483,647: 5."
+    -- "for some s1, not 0 < s1 − 2,147,483,646: true."
     some-x (Not (Positive (x less num 2147483646))) gives to-true ∷
+    -- "with 2,147,483,647: 5."
     some-x (Not (Positive (x less num 2147483647))) gives refuses 5 ∷
-    -- "table 1,2,1: itself. P: no words: 1."
+    -- "table 1,2,1: itself."
     reading (words (1 ∷ 2 ∷ 1 ∷ [])) gives answers 1 0 (words (1 ∷ 2 ∷ 1 ∷ [])) ∷
+    -- "no words: 1."
     reading [] gives refuses 1 ∷
-    -- "leave-off of setting 2 on 0 < s1: verdict 2; of setting 1: verdict 1."
+    -- "leave-off of setting 2 on 0 < s1: verdict 2"
     leaving-off plenty 2 (Positive x) gives to-false ∷
+    -- "of setting 1: verdict 1."
     leaving-off plenty 1 (Positive x) gives to-true ∷
     []
 
