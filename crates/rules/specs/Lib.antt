@@ -13,3 +13,6 @@ pub mod Match
 pub mod Answer
 pub mod Calls
 pub mod Laws
+pub mod Rows
+pub mod Examples
+pub mod Edges
