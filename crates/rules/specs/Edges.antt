@@ -302,6 +302,8 @@ long-rows =
     eliminating 14 (Some 1 (4096 divides x)) gives to-true ∷
     -- over 16,384 words are not read: it would be 2
     elimination (true-bytes ++ replicate 65528 0) 12 12 gives refuses 1 ∷
+    -- 16,384 words are: the word after the last body is met
+    elimination (true-bytes ++ replicate 65524 0) 12 12 gives refuses 2 ∷
     -- the room is at most 16,384 words: 16,391 are needed
     elimination (bytes-of (encode (Some 1 (1261 divides x plus y)))) 65564 65566 gives refuses 6 ∷
     []
