@@ -136,10 +136,10 @@ kinds-found i =
     tt
 
 -- the words ws are the body of node i, which is good, and the words after it
-abbrev Taken : ℕ → List ℤ → Node × List ℤ → Type 0
+abbrev pub Taken : ℕ → List ℤ → Node × List ℤ → Type 0
 Taken i ws p = (ws ≡ body i (p .0) ++ p .1) × Good (p .0)
 
-node-forth : (i : ℕ) (ws : List ℤ) (p : Node × List ℤ) → node i ws ≡ given p → Taken i ws p
+pub node-forth : (i : ℕ) (ws : List ℤ) (p : Node × List ℤ) → node i ws ≡ given p → Taken i ws p
 unfolding Begins
 node-forth i ws p e =
     let (d, vs, w, g) = begins ws e in
@@ -153,10 +153,10 @@ node-forth i ws p e =
     begins (negsuc k ∷ ws) e = unfold node in never e
 
 -- the entries and the words are those of the nodes ds from node i on, the first body at place p
-Written : ℕ → ℕ → List ℤ → List ℤ → List Node → Type 0
+unfoldable pub Written : ℕ → ℕ → List ℤ → List ℤ → List Node → Type 0
 Written i p es ws ds = (es ≡ starts p ds) × (ws ≡ bodies i ds) × AllGood ds
 
-read-forth : (i : ℕ) (es : List ℤ) (p : ℕ) (ws : List ℤ) (ds : List Node) → read i es p ws ≡ given ds
+pub read-forth : (i : ℕ) (es : List ℤ) (p : ℕ) (ws : List ℤ) (ds : List Node) → read i es p ws ≡ given ds
     → Written i p es ws ds
 unfolding read Written starts bodies AllGood
 read-forth i [] p [] ds e = subst (Written i p [] []) (given-inj e) (refl, refl, tt)
@@ -176,7 +176,7 @@ read-forth i (x ∷ es) p ws ds e =
 -- ---- the tree
 
 -- the nodes of rules, one after the other
-nodes-of : List Rule → List Node
+unfoldable pub nodes-of : List Rule → List Node
 unfolding nodes
 nodes-of [] = []
 nodes-of (r ∷ f) = nodes r ++ nodes-of f
@@ -198,14 +198,14 @@ before-forth (literal-node t s) f g e = ap nodes-of (given-inj e)
 before-forth (bind-node q v) [] g e = never e
 before-forth (bind-node q v) (a ∷ f) g e = ap nodes-of (given-inj e)
 
-trees-forth : (ds : List Node) (f : List Rule) → trees ds ≡ given f → ds ≡ nodes-of f
+pub trees-forth : (ds : List Node) (f : List Rule) → trees ds ≡ given f → ds ≡ nodes-of f
 unfolding trees nodes-of
 trees-forth [] f e = ap nodes-of (given-inj e)
 trees-forth (d ∷ ds) f e =
     let t = parts (trees ds) (before d) e in
     ap (λ (l : List Node). d ∷ l) (trees-forth ds (t .0) (t .1)) ∙ before-forth d (t .0) f (t .2)
 
-only-forth : (f : List Rule) (r : Rule) → only-tree f ≡ given r → nodes-of f ≡ nodes r
+pub only-forth : (f : List Rule) (r : Rule) → only-tree f ≡ given r → nodes-of f ≡ nodes r
 unfolding only-tree nodes-of
 only-forth [] r e = never e
 only-forth (a ∷ []) r e = append-nil (nodes a) ∙ ap nodes (given-inj e)

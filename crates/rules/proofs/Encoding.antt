@@ -105,7 +105,7 @@ read-back i p (d ∷ ds) g =
 
 -- ---- the tree
 
-trees-nodes : (r : Rule) (ds : List Node) (f : List Rule) → trees ds ≡ given f → trees (nodes r ++ ds) ≡ given (r ∷ f)
+pub trees-nodes : (r : Rule) (ds : List Node) (f : List Rule) → trees ds ≡ given f → trees (nodes r ++ ds) ≡ given (r ∷ f)
 unfolding trees nodes
 trees-nodes (Constant b) ds f e = then _ e
 trees-nodes (Join j a b) ds f e =

@@ -16,3 +16,4 @@ pub mod Encoding
 pub mod Decoding
 pub mod Bytes
 pub mod Outcomes
+pub mod Trees
