@@ -8,7 +8,7 @@ use native.Mathlib.Omega.{arith}
 use borrow.Author.Tests.{lt-ltb, le-ltb, ltb-true, ltb-false}
 use lib.Dec.{ltb}
 use lib.IntN.{ℤ, pos, negsuc}
-use lib.ListN.{length, getD, take, drop, set, replicate, length-set}
+use lib.ListN.{length, getD, take, drop, set, replicate}
 use lib.Seq.{sets, take-nil, drop-nil, take-set-le, drop-set-lt}
 use mir.Syntax.{w32}
 use mir.Val.{SFits}
