@@ -1,3 +1,4 @@
 pub mod WordLaws
 pub mod SignedBits
+pub mod SettingLaws
 pub mod Standings

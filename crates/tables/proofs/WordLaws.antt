@@ -1,16 +1,20 @@
--- The words of bytes: how many there are, which they are, and what a word's bits say of its number.
+-- The words of bytes: how many there are, which they are, what a store makes of them; and a word's bits and its number.
 -- Assumes nothing.
 use mathlib.Core.Path.{_≡_, refl, ap, _∙_}
 use mathlib.Core.Bool.{Bool, true, false, cond}
 use mathlib.Core.List.{List, [], _∷_}
-use Prim.Native.Nat.{ℕ, zero, suc, _+_, _-_, _*_, _/_, _<_, _≤_}
+use Prim.Native.Nat.{ℕ, zero, suc, _+_, _-_, _*_, _/_, _%_, _<_, _≤_}
 use native.Mathlib.Omega.{arith}
-use borrow.Author.Tests.{lt-ltb, le-ltb, ltb-true}
+use borrow.Author.Tests.{lt-ltb, le-ltb, ltb-true, ltb-false}
 use lib.Dec.{ltb}
 use lib.IntN.{ℤ, pos, negsuc}
-use lib.ListN.{length, getD}
-use Rattle.rules.specs.Calls.{signed, words}
-use Rattle.tables.specs.WordBytes.{bits-at}
+use lib.ListN.{length, getD, take, drop, set, replicate}
+use lib.Seq.{sets, take-nil, drop-nil, take-set-le, drop-set-lt}
+use mir.Syntax.{w32}
+use mir.Val.{SFits}
+use Rattle.rules.specs.Calls.{signed, bits, words, bytes-of}
+use Rattle.tables.specs.WordBytes.{bits-at, bytes-of-bits}
+use Rattle.tables.proofs.SignedBits.{signed-bits}
 
 -- ---- a word's bits and its number, for a caller of `natural`
 
@@ -70,3 +74,104 @@ words-get (a ∷ b ∷ []) i h = absurd (omega arith)
 words-get (a ∷ b ∷ c ∷ []) i h = absurd (omega arith)
 words-get (a ∷ b ∷ c ∷ d ∷ l) zero h = refl
 words-get (a ∷ b ∷ c ∷ d ∷ l) (suc i) h = rw (past i 3, past i 2, past i 1, next i) (words-get l i (omega arith))
+
+-- ---- a store of a word's bytes
+
+four-bytes : (u : ℕ) → u < 4294967296
+    → u % 256 + 256 * (u / 256 % 256 + 256 * (u / 65536 % 256 + 256 * (u / 16777216 % 256))) ≡ u
+four-bytes u h =
+    let second : u / 65536 ≡ u / 256 / 256 = omega arith in
+    let third : u / 16777216 ≡ u / 65536 / 256 = omega arith in
+    let top : u / 16777216 % 256 ≡ u / 16777216 = omega arith in
+    omega arith
+
+bits-low : (v : ℤ) → SFits w32 v → bits v < 4294967296
+bits-low (pos n) f = omega (arith, f .sfits)
+bits-low (negsuc n) f = omega arith
+
+pub words-set : (l : List ℕ) (i : ℕ) (v : ℤ) → SFits w32 v → i < length (words l)
+    → words (sets l (i * 4) (bytes-of (v ∷ []))) ≡ set (words l) i v
+unfolding words bytes-of
+words-set [] i v f h = absurd (omega arith)
+words-set (a ∷ []) i v f h = absurd (omega arith)
+words-set (a ∷ b ∷ []) i v f h = absurd (omega arith)
+words-set (a ∷ b ∷ c ∷ []) i v f h = absurd (omega arith)
+words-set (a ∷ b ∷ c ∷ d ∷ l) zero v f h =
+    ap (λ (w : ℤ). w ∷ words l) (ap signed (four-bytes (bits v) (bits-low v f)) ∙ signed-bits v f)
+words-set (a ∷ b ∷ c ∷ d ∷ l) (suc i) v f h =
+    rw (next i) (ap (λ (ws : List ℤ). signed (a + 256 * (b + 256 * (c + 256 * d))) ∷ ws) (words-set l i v f (omega arith)))
+
+-- a store of the bits of v
+pub words-put : (l m : List ℕ) (i u : ℕ) (v : ℤ) → SFits w32 v → i < length (words l) → u ≡ bits v
+    → m ≡ sets l (i * 4) (bytes-of-bits u)
+    → (words m ≡ set (words l) i v) × (m ≡ sets l (i * 4) (bytes-of (v ∷ [])))
+unfolding bytes-of
+words-put l m i u v f h e p =
+    let q = p ∙ ap (λ (u : ℕ). sets l (i * 4) (bytes-of-bits u)) e in
+    (ap words q ∙ words-set l i v f h, q)
+
+-- it leaves the bytes before word i and those after it, and their number
+pub put-before : (l : List ℕ) (i k : ℕ) (v : ℤ) → k ≤ i * 4
+    → take k (sets l (i * 4) (bytes-of (v ∷ []))) ≡ take k l
+unfolding bytes-of
+put-before l i k v h =
+    take-set-le k _ _ _ (omega arith) ∙ take-set-le k _ _ _ (omega arith) ∙ take-set-le k _ _ _ (omega arith)
+    ∙ take-set-le k _ _ _ h
+
+pub put-after : (l : List ℕ) (i k : ℕ) (v : ℤ) → i * 4 + 4 ≤ k
+    → drop k (sets l (i * 4) (bytes-of (v ∷ []))) ≡ drop k l
+unfolding bytes-of
+put-after l i k v h =
+    drop-set-lt k _ _ _ (omega arith) ∙ drop-set-lt k _ _ _ (omega arith) ∙ drop-set-lt k _ _ _ (omega arith)
+    ∙ drop-set-lt k _ _ _ (omega arith)
+
+-- ---- parts
+
+pub words-drop : (l : List ℕ) (k : ℕ) → words (drop (k * 4) l) ≡ drop k (words l)
+unfolding words
+words-drop l zero = refl
+words-drop [] (suc k) = ap words (drop-nil (suc k * 4))
+words-drop (a ∷ []) (suc k) = rw (next k, drop-nil)
+words-drop (a ∷ b ∷ []) (suc k) = rw (next k, drop-nil)
+words-drop (a ∷ b ∷ c ∷ []) (suc k) = rw (next k, drop-nil)
+words-drop (a ∷ b ∷ c ∷ d ∷ l) (suc k) = rw (next k) (words-drop l k)
+
+pub words-take : (l : List ℕ) (k : ℕ) → words (take (k * 4) l) ≡ take k (words l)
+unfolding words
+words-take l zero = refl
+words-take [] (suc k) = ap words (take-nil (suc k * 4))
+words-take (a ∷ []) (suc k) = rw (next k, take-nil)
+words-take (a ∷ b ∷ []) (suc k) = rw (next k, take-nil)
+words-take (a ∷ b ∷ c ∷ []) (suc k) = rw (next k, take-nil)
+words-take (a ∷ b ∷ c ∷ d ∷ l) (suc k) =
+    rw (next k) (ap (λ (ws : List ℤ). signed (a + 256 * (b + 256 * (c + 256 * d))) ∷ ws) (words-take l k))
+
+-- ---- zeros, and the range of a word
+
+pub words-zero : (n : ℕ) → words (replicate n 0) ≡ replicate (n / 4) (pos 0)
+unfolding words
+words-zero zero = refl
+words-zero (suc zero) = refl
+words-zero (suc (suc zero)) = refl
+words-zero (suc (suc (suc zero))) = refl
+words-zero (suc (suc (suc (suc n)))) =
+    ap (λ (ws : List ℤ). pos 0 ∷ ws) (words-zero n)
+    ∙ ap (λ (k : ℕ). replicate k (pos 0)) (let e : suc (n / 4) ≡ suc (suc (suc (suc n))) / 4 = omega arith in e)
+
+pub signed-fits : (u : ℕ) → u < 4294967296 → SFits w32 (signed u)
+signed-fits u h = by (ltb u 2147483648) refl
+  where
+    by : (b : Bool) → ltb u 2147483648 ≡ b → SFits w32 (cond b (pos u) (negsuc (4294967295 - u)))
+    by true e = record { sfits = omega (arith, ltb-true u 2147483648 e) }
+    by false e = record { sfits = omega (arith, ltb-false u 2147483648 e) }
+
+-- every word of bytes is one that the machine holds; past the end stands 0
+pub words-fit : (l : List ℕ) → ((k : ℕ) → getD l k 0 < 256) → (i : ℕ) → SFits w32 (getD (words l) i (pos 0))
+unfolding words
+words-fit [] h i = record { sfits = omega arith }
+words-fit (a ∷ []) h i = record { sfits = omega arith }
+words-fit (a ∷ b ∷ []) h i = record { sfits = omega arith }
+words-fit (a ∷ b ∷ c ∷ []) h i = record { sfits = omega arith }
+words-fit (a ∷ b ∷ c ∷ d ∷ l) h zero =
+    signed-fits (a + 256 * (b + 256 * (c + 256 * d))) (omega (arith, h 0, h 1, h 2, h 3))
+words-fit (a ∷ b ∷ c ∷ d ∷ l) h (suc i) = words-fit l (λ k. h (suc (suc (suc (suc k))))) i

@@ -1,2 +1,3 @@
-// Tables in lent bytes.
+// A rule's table in lent bytes.
+pub mod settings;
 pub mod words;
