@@ -2,3 +2,4 @@ pub mod WordLaws
 pub mod SignedBits
 pub mod SettingLaws
 pub mod Standings
+pub mod TreeLaws

@@ -1,3 +1,4 @@
 pub mod WordBytes
 pub mod Settings
 pub mod Standing
+pub mod Checks
