@@ -1,14 +1,14 @@
 -- Cooper's theorem apart from rules: G is what a body says of x, Far what it comes to far to the left, Bound its lower bounds,
 -- P a period. The right-hand theorem is this one at −x.
 -- Assumes nothing.
-use mathlib.Core.Path.{_≡_, refl, sym, _∙_, ap, subst}
+use mathlib.Core.Path.{_≡_, sym, subst}
 use mathlib.Core.Logic.{_↔_, _⊎_, inl, inr, Iff·symm, Iff·trans}
 use Prim.Native.Nat.{ℕ, zero, suc, _+_, _*_, _-_, _≤_, _<_}
 use native.Mathlib.Nat.{mul-le-mul-left}
 use native.Mathlib.Omega.{arith}
-use lib.IntN.{ℤ, pos, negsuc, negℤ, _+ℤ_, _-ℤ_, _*ℤ_}
+use lib.IntN.{ℤ, pos, negsuc, _+ℤ_, _-ℤ_, _*ℤ_}
 use lib.Signed.{_≤ℤ_, _<ℤ_}
-use Rattle.whole.proofs.Difference.{zz, z1, z2, z3}
+use Rattle.whole.proofs.Difference.{zz, z1, z2}
 use Rattle.whole.proofs.Linear.{zarith, U, dif}
 use Rattle.whole.proofs.Divisibility.{quotient-of, remainder, remainder-less, quotient-remainder}
 

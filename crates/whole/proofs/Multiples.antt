@@ -1,18 +1,19 @@
 -- gcd and lcm are what their names say, at every two numbers, and the lcm of a list is a multiple of each.
 -- Assumes nothing.
-use mathlib.Core.Path.{_≡_, refl, sym, _∙_, ap, ap₂, subst, subst⁻¹}
-use Prim.Native.Nat.{ℕ, zero, suc, _+_, _*_, _-_, _/_, _%_, _≤_, _<_}
+use mathlib.Core.Path.{_≡_, refl, sym, _∙_, ap, ap₂, subst}
+use Prim.Native.Nat.{ℕ, zero, suc, _+_, _*_, _/_, _%_, _≤_, _<_}
 use native.Mathlib.Nat.{mod-lt, div-add-mod, mul-pos, zero-mul}
 use native.Mathlib.Omega.{arith}
 use mathlib.Core.List.{List, [], _∷_}
-use lib.IntN.{ℤ, pos, negsuc, negℤ, _+ℤ_, _-ℤ_, _*ℤ_}
+use lib.IntN.{ℤ, pos, _+ℤ_, _-ℤ_, _*ℤ_}
 use Rattle.whole.specs.Divides.{Divides}
 use Rattle.whole.specs.Multiples.{GreatestCommonDivisor, LeastCommonMultiple, euclid, gcd, lcm, lcms}
 use Rattle.whole.proofs.Difference.{zz, z1, z3, z4, z5}
 use Rattle.whole.proofs.Order.{*ℤ-≡}
 use Rattle.whole.proofs.Ring.{rr, ring, r4, r6}
 use Rattle.whole.proofs.Lists.{All, all-imp}
-use Rattle.whole.proofs.Divisibility.{divides-zero, divides-self, divides-times, divides-add, divides-mul, divides-trans, divides-test}
+use Rattle.whole.proofs.Divisibility.{divides-zero, divides-self, divides-times, divides-add}
+use Rattle.whole.proofs.Divisibility.{divides-mul, divides-trans, divides-test}
 
 -- ---- the greatest common divisor
 

@@ -3,7 +3,6 @@
 use mathlib.Core.Path.{_≡_, ap, subst}
 use mathlib.Core.Logic.{_↔_, _⊎_, inl, inr}
 use mathlib.Core.Bool.{Bool, true, false, not, _&&_, _||_, cond}
-use Prim.Native.Nat.{ℕ}
 use lib.Dec.{T, T-not, not-T, eqb→eq, eqb-refl}
 use lib.IntN.{ℤ, pos, negsuc}
 use Rattle.whole.specs.Integers.{eqZ}
