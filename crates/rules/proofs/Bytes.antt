@@ -11,9 +11,12 @@ use lib.ListN.{length}
 use Rattle.whole.specs.Integers.{within}
 use Rattle.whole.proofs.Tests.{T-and, cond-ind}
 use Rattle.rules.specs.Sum.{limit, all-within}
-use Rattle.rules.specs.Rule.{and, or, for-some, for-all, positive, divisible, is-zero, Rule, Constant, Join, Not, Literal, Bind}
+use Rattle.rules.specs.Rule.{and, or, for-some, for-all, positive, divisible, is-zero}
+use Rattle.rules.specs.Rule.{Rule, Constant, Join, Not, Literal, Bind}
 use Rattle.rules.specs.Result.{given}
-use Rattle.rules.specs.Table.{Node, constant-node, join-node, not-node, literal-node, bind-node, most-words, body, width, count, nodes, bodies, starts, encode, size, is-setting, is-divisor}
+use Rattle.rules.specs.Table.{Node, constant-node, join-node, not-node, literal-node, bind-node}
+use Rattle.rules.specs.Table.{most-words, body, width, count, nodes, bodies}
+use Rattle.rules.specs.Table.{starts, encode, size, is-setting, is-divisor}
 use Rattle.rules.specs.Decode.{decode}
 use Rattle.rules.specs.Calls.{signed, bits, words-of, bytes-of, rule-of}
 use Rattle.rules.specs.Laws.{Each, WellFormed}

@@ -1,14 +1,14 @@
 -- What the choice of a quantifier and its replacement do to a rule, by one relation: Put.
 -- Assumes nothing.
 use mathlib.Core.Path.{_≡_, refl, sym, _∙_, ap, subst}
-use mathlib.Core.Logic.{_↔_, Iff·rfl, Iff·not}
+use mathlib.Core.Logic.{Iff·rfl, Iff·not}
 use mathlib.Core.Bool.{Bool, true, false, not}
-use Prim.Native.Nat.{ℕ, suc, _+_, _≤_, _<_}
+use Prim.Native.Nat.{ℕ, suc, _+_, _<_}
 use native.Mathlib.Omega.{arith}
 use lib.Dec.{T, ltb, ltb→lt, lt→ltb, nltb→le}
-use Rattle.rules.specs.Sum.{Sum, Choice, with}
+use Rattle.rules.specs.Sum.{Sum, with}
 use Rattle.rules.specs.Rule.{Junction, Quantifier, Test, Rule, Constant, Join, Not, Literal, Bind, Holds}
-use Rattle.rules.specs.Fold.{fold, fold-join, fold-not}
+use Rattle.rules.specs.Fold.{fold, fold-join}
 use Rattle.rules.specs.Chosen.{Chosen, nothing, the, quantifiers, quantified, chosen, replace}
 use Rattle.rules.specs.Laws.{Same, QuantifierFree, Each, ReplaceKeeps}
 use Rattle.rules.proofs.Meaning.{joined-iff, ranges-iff}

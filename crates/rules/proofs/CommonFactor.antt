@@ -1,26 +1,26 @@
 -- Step 2 keeps the meaning of for some x: D·x is called x.
 -- Assumes nothing.
 use mathlib.Core.Path.{_≡_, refl, sym, _∙_, ap, subst}
-use mathlib.Core.Logic.{_↔_, Iff·rfl, Iff·trans}
+use mathlib.Core.Logic.{_↔_, Iff·trans}
 use mathlib.Core.Bool.{Bool, true, false, not, cond, true≢false}
-use mathlib.Core.List.{List, [], _∷_}
+use mathlib.Core.List.{[], _∷_}
 use Prim.Native.Nat.{ℕ, zero, suc, _*_, _/_, _≤_, _<_}
 use native.Mathlib.Nat.{mul-comm}
 use native.Mathlib.Omega.{arith}
-use lib.Dec.{T, eqb, eqb·suc-zero}
+use lib.Dec.{eqb, eqb·suc-zero}
 use lib.IntN.{ℤ, pos, negsuc, negℤ, natAbs, _+ℤ_, _*ℤ_}
 use Rattle.whole.specs.Integers.{eqZ}
 use Rattle.whole.specs.Divides.{Divides}
 use Rattle.whole.specs.Multiples.{lcms}
 use Rattle.whole.proofs.Tests.{cond-ind}
 use Rattle.whole.proofs.Lists.{All}
-use Rattle.whole.proofs.Difference.{zz, z1, z5}
+use Rattle.whole.proofs.Difference.{zz, z1}
 use Rattle.whole.proofs.Ring.{rr, ring, r4}
 use Rattle.whole.proofs.Order.{positive-scale, *ℤ-assoc}
 use Rattle.whole.proofs.Divisibility.{divides-scale, divides-times}
 use Rattle.whole.proofs.Multiples.{quotient-exact, quotient-pos, lcms-pos, lcms-divided}
-use Rattle.rules.specs.Sum.{Sum, Choice, with, factor, has, put, scale, setting, value}
-use Rattle.rules.specs.Rule.{Test, positive, divisible, is-zero, Rule, Constant, Join, Not, Literal, Bind, Some, Passes, Holds}
+use Rattle.rules.specs.Sum.{Sum, Choice, with, factor, put, scale, value}
+use Rattle.rules.specs.Rule.{Test, positive, divisible, is-zero, Rule, Passes, Holds}
 use Rattle.rules.specs.Literals.{gather, map-literals}
 use Rattle.rules.specs.Steps.{size-of, common-factor, multiplier, times, sign, scale-literal, scaled}
 use Rattle.rules.specs.Laws.{Normal, NoZero, CommonFactorKeeps}

@@ -2,32 +2,37 @@
 -- Assumes nothing.
 use mathlib.Core.Path.{_≡_, refl, sym, _∙_, ap, subst}
 use mathlib.Core.Logic.{_↔_, _⊎_, inl, inr, Iff·rfl, Iff·trans, Iff·symm}
-use mathlib.Core.Bool.{Bool, true, false, not, cond}
+use mathlib.Core.Bool.{Bool, cond}
 use mathlib.Core.List.{List, [], _∷_, _++_, map}
 use Prim.Native.Nat.{ℕ, zero, suc, _+_, _≤_, _<_}
 use native.Mathlib.Nat.{eq-or-lt-of-le}
 use native.Mathlib.Omega.{arith}
 use lib.Dec.{T}
 use lib.IntN.{ℤ, pos, negsuc, negℤ, natAbs, _+ℤ_, _-ℤ_, _*ℤ_, +ℤ-comm}
-use lib.Signed.{_<ℤ_, _≤ℤ_}
+use lib.Signed.{_<ℤ_}
 use Rattle.whole.specs.Integers.{eqZ}
 use Rattle.whole.specs.Divides.{Divides}
 use Rattle.whole.specs.Multiples.{lcms}
 use Rattle.whole.proofs.Tests.{T-and, cond-ind, eqZ→eq}
 use Rattle.whole.proofs.Lists.{All, Any, ⊎-iff, any-imp, any-found, any-append, any-map}
-use Rattle.whole.proofs.Difference.{zz, z1, z2, z3, z4}
+use Rattle.whole.proofs.Difference.{zz, z1, z2, z4}
 use Rattle.whole.proofs.Order.{≤ℤ-or->ℤ}
 use Rattle.whole.proofs.Divisibility.{divides-zero, divides-mul, divides-shift}
 use Rattle.whole.proofs.Multiples.{lcms-pos, lcms-divided}
 use Rattle.whole.proofs.Cooper.{UpTo, Reached, Cooper, crossed, cooper}
 use Rattle.rules.specs.Sum.{Sum, Choice, with, factor, add, scale, negate, put, number, same, value}
-use Rattle.rules.specs.Rule.{Junction, or, Test, positive, divisible, is-zero, Rule, Constant, Join, Not, Literal, Bind, True, False, Some, Passes, Holds}
+use Rattle.rules.specs.Rule.{Test, positive, divisible, is-zero}
+use Rattle.rules.specs.Rule.{Rule, Constant, Join, Not, Literal, Bind, True, False, Some, Passes, Holds}
 use Rattle.rules.specs.Literals.{gather, map-literals}
-use Rattle.rules.specs.Steps.{divisor-of, period, bound-of, without, once, bounds, far-literal, far-left, sum-at, body-at, for-each, disjuncts, any-of, disjunction}
-use Rattle.rules.specs.Laws.{Each, DivisorOf, Normal, UnitFactor, Periodic, CooperTheorem, DisjunctionKeeps}
+use Rattle.rules.specs.Steps.{divisor-of}
+use Rattle.rules.specs.Steps.{period}
+use Rattle.rules.specs.Steps.{bound-of, without, once, bounds, far-literal, far-left}
+use Rattle.rules.specs.Steps.{sum-at, body-at, for-each, disjuncts, any-of, disjunction}
+use Rattle.rules.specs.Laws.{DivisorOf, Normal, UnitFactor, Periodic, CooperTheorem, DisjunctionKeeps}
 use Rattle.rules.proofs.Sums.{rest, value-with, value-add, value-scale, value-negate, value-number}
 use Rattle.rules.proofs.Meaning.{joined-iff, whether-iff, at-equal}
-use Rattle.rules.proofs.OverLiterals.{normal-imp, normal-both, each-normal, map-keeps, map-same, map-normal, goes-over, gathered-all, all-gathered, Among, gathered-among}
+use Rattle.rules.proofs.OverLiterals.{normal-imp, normal-both, each-normal, map-keeps, map-same, map-normal}
+use Rattle.rules.proofs.OverLiterals.{goes-over, gathered-all, all-gathered, Among, gathered-among}
 
 -- ---- the factor of x is 1, −1 or 0
 

@@ -12,9 +12,11 @@ use lib.ListN.{length}
 use Rattle.whole.proofs.Tests.{T-and}
 use Rattle.whole.proofs.Difference.{z2, zz}
 use Rattle.rules.specs.Sum.{limit, all-within}
-use Rattle.rules.specs.Rule.{and, or, for-some, for-all, Test, positive, divisible, is-zero, Rule, Constant, Join, Not, Literal, Bind}
+use Rattle.rules.specs.Rule.{and, or, for-some, for-all, Test, positive, divisible, is-zero}
+use Rattle.rules.specs.Rule.{Rule, Constant, Join, Not, Literal, Bind}
 use Rattle.rules.specs.Result.{given}
-use Rattle.rules.specs.Table.{Node, constant-node, join-node, not-node, literal-node, bind-node, most-words, body, width, count, nodes, bodies, starts, size, is-setting, is-divisor}
+use Rattle.rules.specs.Table.{Node, constant-node, join-node, not-node, literal-node, bind-node}
+use Rattle.rules.specs.Table.{most-words, body, width, count, nodes, bodies, starts, size, is-setting, is-divisor}
 use Rattle.rules.specs.Decode.{cut, checked, sum-of, divisor-and-sum, node, read, trees, decode}
 use Rattle.rules.specs.Laws.{Each, InTable, WellFormed, DecodeEncode}
 use Rattle.rules.proofs.Refusals.{then, passed}

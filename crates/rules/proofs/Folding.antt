@@ -3,16 +3,18 @@
 use mathlib.Core.Path.{_≡_, refl, sym, _∙_, ap, ap₂, subst}
 use mathlib.Core.Logic.{_↔_, _⊎_, inl, inr, Iff·rfl, Iff·trans, Iff·not}
 use mathlib.Core.Bool.{Bool, true, false, not, _||_, cond}
-use Prim.Native.Nat.{ℕ, suc, _+_, _≤_}
+use Prim.Native.Nat.{ℕ, _+_, _≤_}
 use native.Mathlib.Omega.{arith}
-use lib.Dec.{T, eqb, eqb→eq}
+use lib.Dec.{T, eqb→eq}
 use lib.IntN.{ℤ}
 use Rattle.whole.specs.Divides.{Divides}
 use Rattle.whole.proofs.Tests.{T-or, T-no, cond-ind}
 use Rattle.whole.proofs.Divisibility.{one-divides}
 use Rattle.rules.specs.Sum.{Sum, Choice, with, factor, no-factors, value}
-use Rattle.rules.specs.Rule.{Junction, and, or, Quantifier, Test, positive, divisible, is-zero, Rule, Constant, Join, Not, Literal, Bind, Joined, Passes, Holds, passes}
-use Rattle.rules.specs.Fold.{divisor-one, fold-literal, fold-not, Side, decides, drops, stays, constant-side, side, fold-sides, fold-join, fold}
+use Rattle.rules.specs.Rule.{Junction, and, or, Quantifier, Test, positive, divisible, is-zero}
+use Rattle.rules.specs.Rule.{Rule, Constant, Join, Not, Literal, Bind, Joined, Passes, Holds, passes}
+use Rattle.rules.specs.Fold.{divisor-one, fold-literal, fold-not, Side, decides}
+use Rattle.rules.specs.Fold.{drops, stays, side, fold-sides, fold-join, fold}
 use Rattle.rules.specs.Chosen.{quantifiers}
 use Rattle.rules.specs.Laws.{QuantifierFree, FoldKeeps}
 use Rattle.rules.proofs.Sums.{value-no-factors}

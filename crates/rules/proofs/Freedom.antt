@@ -1,20 +1,19 @@
 -- What the steps leave names only settings that were free.
 -- Assumes nothing.
-use mathlib.Core.Path.{_≡_, refl, sym, _∙_, ap, subst}
+use mathlib.Core.Path.{_≡_, _∙_, ap, subst}
 use mathlib.Core.Logic.{_⊎_, inl, inr}
 use mathlib.Core.Bool.{Bool, true, false, not, _&&_, _||_}
-use mathlib.Core.List.{List, [], _∷_}
-use Prim.Native.Nat.{ℕ, zero, suc, _≤_}
+use Prim.Native.Nat.{ℕ, _≤_}
 use native.Mathlib.Decide.{ℕ-discrete}
-use native.Mathlib.Omega.{arith}
 use lib.Dec.{T, eqb, eqb→eq}
 use lib.IntN.{ℤ, pos, negsuc, _+ℤ_, _*ℤ_, *ℤ-zero}
 use Rattle.whole.specs.Integers.{eqZ}
 use Rattle.whole.proofs.Tests.{eqZ→eq, eq→eqZ}
 use Rattle.rules.specs.Sum.{Sum, factor, has, add, scale, negate, put, number, setting, one-plus, one-minus}
-use Rattle.rules.specs.Rule.{Quantifier, Test, positive, divisible, is-zero, Rule, Constant, Join, Not, Literal, Bind, Some}
+use Rattle.rules.specs.Rule.{Test, positive, divisible, is-zero, Rule, Constant, Join, Not, Literal, Bind, Some}
 use Rattle.rules.specs.Literals.{some-literal, map-literals}
-use Rattle.rules.specs.Steps.{x-not-negative, normal-literal, normal, multiplier, times, sign, scale-literal, scaled, sum-at, disjunction}
+use Rattle.rules.specs.Steps.{normal-literal, normal}
+use Rattle.rules.specs.Steps.{multiplier, sign, scale-literal, scaled, sum-at, disjunction}
 use Rattle.rules.specs.Answer.{occurs}
 use Rattle.rules.specs.Laws.{QuantifierFree, Normal, NoZero, free}
 use Rattle.rules.proofs.Sums.{factor-put, factor-put-other, factor-scale, factor-add, number-factor}

@@ -1,18 +1,20 @@
 -- The meaning of a rule, part by part; of a quantifier-free rule it is decided by the test `holds`.
 -- Assumes nothing.
-use mathlib.Core.Path.{_≡_, refl, sym, subst}
-use mathlib.Core.Logic.{_↔_, _⊎_, inl, inr, Iff·rfl, Iff·trans, Iff·not, Iff·and, Iff·symm}
+use mathlib.Core.Path.{_≡_, sym, subst}
+use mathlib.Core.Logic.{_↔_, Iff·rfl, Iff·trans, Iff·not, Iff·and}
 use mathlib.Core.Bool.{Bool, true, false, not}
-use Prim.Native.Nat.{ℕ, suc, _+_}
+use Prim.Native.Nat.{ℕ}
 use native.Mathlib.Omega.{arith}
 use lib.Dec.{T, nltb→le}
 use lib.IntN.{ℤ, pos}
-use Rattle.whole.specs.Divides.{Divides, divides}
+use Rattle.whole.specs.Divides.{divides}
 use Rattle.whole.proofs.Tests.{T-and, T-or, T-no, T-dec, eqZ→eq, eq→eqZ}
 use Rattle.whole.proofs.Lists.{⊎-iff}
 use Rattle.whole.proofs.Divisibility.{divides-test}
-use Rattle.rules.specs.Sum.{Sum, Choice, with, value, all-within}
-use Rattle.rules.specs.Rule.{Junction, and, or, Quantifier, for-some, for-all, Test, positive, divisible, is-zero, Rule, Constant, Join, Not, Literal, Bind, Joined, Whether, Ranges, Passes, Holds, whether, passes}
+use Rattle.rules.specs.Sum.{Choice, with, value, all-within}
+use Rattle.rules.specs.Rule.{Junction, and, or, Quantifier, for-some, for-all, Test, positive, divisible, is-zero}
+use Rattle.rules.specs.Rule.{Rule, Constant, Join, Not, Literal, Bind, Joined}
+use Rattle.rules.specs.Rule.{Whether, Ranges, Passes, Holds, whether, passes}
 use Rattle.rules.specs.Chosen.{quantifiers, quantified}
 use Rattle.rules.specs.Match.{joined, holds, choice, most-value, matching}
 use Rattle.rules.specs.Laws.{Same, QuantifierFree, HoldsDecides, MatchingRight, ForAllKeeps}

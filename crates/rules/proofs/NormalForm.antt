@@ -1,11 +1,11 @@
 -- Step 1 keeps the meaning, plainly and under a not, and leaves no not and no T = 0.
 -- Assumes nothing.
-use mathlib.Core.Path.{_≡_, refl, sym, _∙_, ap, subst}
-use mathlib.Core.Logic.{_↔_, _⊎_, inl, inr, Iff·rfl, Iff·trans, Iff·symm, Iff·and}
+use mathlib.Core.Path.{_≡_, refl}
+use mathlib.Core.Logic.{_↔_, _⊎_, inl, inr, Iff·rfl, Iff·trans, Iff·and}
 use mathlib.Core.Bool.{Bool, true, false, not}
 use Prim.Native.Nat.{ℕ, zero, suc}
 use native.Mathlib.Omega.{arith}
-use lib.Dec.{T, lt→ltb}
+use lib.Dec.{lt→ltb}
 use lib.IntN.{ℤ, pos, negsuc, negℤ, _+ℤ_}
 use lib.Signed.{_<ℤ_}
 use Rattle.whole.specs.Divides.{Divides, divides}
@@ -13,12 +13,14 @@ use Rattle.whole.proofs.Tests.{T-dec}
 use Rattle.whole.proofs.Lists.{⊎-iff}
 use Rattle.whole.proofs.Difference.{zz, z1}
 use Rattle.whole.proofs.Divisibility.{divides-neg-iff, divides-test}
-use Rattle.rules.specs.Sum.{Sum, Choice, factor, negate, one-plus, one-minus, value}
-use Rattle.rules.specs.Rule.{Junction, and, or, Test, positive, divisible, is-zero, Rule, Constant, Join, Not, Literal, Bind, Joined, Whether, Passes, Holds, whether}
+use Rattle.rules.specs.Sum.{Sum, Choice, factor, negate, value}
+use Rattle.rules.specs.Rule.{Junction, and, or, Test, positive, divisible, is-zero}
+use Rattle.rules.specs.Rule.{Rule, Constant, Join, Not, Literal, Bind, Joined, Whether, Passes, Holds, whether}
 use Rattle.rules.specs.Steps.{by-de-morgan, x-not-negative, normal-literal, normal}
 use Rattle.rules.specs.Laws.{QuantifierFree, Normal, NoZero, NormalKeeps}
 use Rattle.rules.proofs.Sums.{value-negate, value-one-plus, value-one-minus}
-use Rattle.rules.proofs.Meaning.{joined-iff, whether-iff, at-equal, T-whether, join-free, not-free, bind-free, dec-iff, decided}
+use Rattle.rules.proofs.Meaning.{joined-iff, whether-iff, at-equal, T-whether}
+use Rattle.rules.proofs.Meaning.{join-free, not-free, bind-free, dec-iff, decided}
 
 -- ---- nots
 

@@ -1,22 +1,21 @@
 -- The outcome of a call that makes a table fills both lent buffers, byte for byte.
 -- Assumes nothing.
-use mathlib.Core.Path.{_≡_, refl, sym, _∙_, ap}
-use mathlib.Core.List.{List, [], _++_}
-use Prim.Native.Nat.{ℕ, _+_, _*_, _-_, _≤_}
+use mathlib.Core.Path.{_≡_, refl, _∙_, ap}
+use Prim.Native.Nat.{ℕ, _+_, _-_, _≤_}
 use native.Mathlib.Omega.{arith}
 use lib.Dec.{leb}
-use lib.IntN.{ℤ, natAbs}
+use lib.IntN.{natAbs}
 use lib.ListN.{length, length-append, replicate, length-replicate}
 use Rattle.rules.specs.Rule.{Rule}
 use Rattle.rules.specs.Result.{Result, refused, given, _>>=_}
 use Rattle.rules.specs.Table.{encode, size, is-setting}
 use Rattle.rules.specs.Eliminate.{eliminate}
 use Rattle.rules.specs.LeaveOff.{question, leave-off}
-use Rattle.rules.specs.Calls.{bytes-of, rule-of, room, table-bytes, outcome, eliminated, left-off}
+use Rattle.rules.specs.Calls.{rule-of, room, table-bytes, outcome, eliminated, left-off}
 use Rattle.rules.specs.Laws.{WellFormed, Fills, EliminatedFills, LeftOffFills}
 use Rattle.rules.proofs.Refusals.{parts, required}
 use Rattle.rules.proofs.Bytes.{length-bytes, rule-forth}
-use Rattle.rules.proofs.Soundness.{Follows, eliminate-follows}
+use Rattle.rules.proofs.Soundness.{eliminate-follows}
 use Rattle.rules.proofs.Verdicts.{natural, question-formed}
 
 fills : (out work : ℕ) (r : Result Rule) → ((f : Rule) → r ≡ given f → size f ≤ room out work) → Fills out work (outcome out work r)

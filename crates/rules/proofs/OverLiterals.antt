@@ -2,13 +2,12 @@
 -- Assumes nothing.
 use mathlib.Core.Path.{_≡_}
 use mathlib.Core.Logic.{_↔_, _⊎_, inl, inr, Iff·rfl}
-use mathlib.Core.Bool.{Bool}
-use mathlib.Core.List.{List, [], _∷_, _++_}
-use Prim.Native.Nat.{ℕ, _+_}
+use mathlib.Core.List.{List, _++_}
 use native.Mathlib.Omega.{arith}
 use Rattle.whole.proofs.Lists.{All, Any, all-append, any-append}
 use Rattle.rules.specs.Sum.{Sum, Choice, value}
-use Rattle.rules.specs.Rule.{Junction, and, or, Quantifier, Test, Rule, Constant, Join, Not, Literal, Bind, Joined, Passes, Holds}
+use Rattle.rules.specs.Rule.{Junction, and, or, Test}
+use Rattle.rules.specs.Rule.{Rule, Constant, Join, Not, Literal, Bind, Joined, Passes, Holds}
 use Rattle.rules.specs.Chosen.{quantifiers}
 use Rattle.rules.specs.Literals.{gather, map-literals}
 use Rattle.rules.specs.Laws.{QuantifierFree, Each, Normal}

@@ -1,30 +1,33 @@
 -- What the steps leave is what the next step asks for and what a table can hold.
 -- Assumes nothing.
-use mathlib.Core.Path.{_≡_, refl, sym, _∙_, ap, subst}
-use mathlib.Core.Logic.{_⊎_, inl, inr}
-use mathlib.Core.Bool.{Bool, true, false, not, _&&_, _||_, cond}
+use mathlib.Core.Path.{_≡_, refl, sym, _∙_, subst}
+use mathlib.Core.Bool.{Bool, true, false, not, _||_, cond}
 use mathlib.Core.List.{List, [], _∷_, _++_, map}
-use Prim.Native.Nat.{ℕ, zero, suc, _+_, _*_, _≤_, _<_}
+use Prim.Native.Nat.{ℕ, zero, suc, _≤_, _<_}
 use native.Mathlib.Nat.{mul-pos}
 use native.Mathlib.Omega.{arith}
-use lib.Dec.{T, leb, leb→le, le→leb, ltb, nltb→le}
+use lib.Dec.{T, leb, leb→le, le→leb, nltb→le}
 use lib.IntN.{ℤ, pos, negsuc, natAbs}
 use lib.ListN.{length}
 use Rattle.whole.specs.Integers.{eqZ}
-use Rattle.whole.proofs.Tests.{T-and, T-or, T-no, cond-ind}
+use Rattle.whole.proofs.Tests.{T-and, cond-ind}
 use Rattle.whole.proofs.Lists.{All, all-append, all-map, all-imp}
-use Rattle.rules.specs.Sum.{Sum, factor, add, scale, negate, put, number, setting, one-plus, one-minus, same, limit, all-within}
-use Rattle.rules.specs.Rule.{Junction, Quantifier, Test, positive, divisible, is-zero, Rule, Constant, Join, Not, Literal, Bind, True, False}
-use Rattle.rules.specs.Table.{is-setting, is-divisor}
-use Rattle.rules.specs.Chosen.{quantifiers}
-use Rattle.rules.specs.Literals.{some-literal, gather, map-literals}
-use Rattle.rules.specs.Steps.{x-not-negative, normal-literal, normal, common-factor, multiplier, times, sign, scale-literal, scaled, bound-of, without, once, bounds, far-literal, far-left, sum-at, body-at, for-each, disjuncts, any-of, disjunction}
+use Rattle.rules.specs.Sum.{Sum, factor, add, scale, negate, put, number, setting}
+use Rattle.rules.specs.Sum.{one-plus, one-minus, same, limit, all-within}
+use Rattle.rules.specs.Rule.{Test, positive, divisible, is-zero}
+use Rattle.rules.specs.Rule.{Rule, Constant, Join, Not, Literal, Bind, True, False}
+use Rattle.rules.specs.Table.{is-divisor}
+use Rattle.rules.specs.Literals.{some-literal, gather}
+use Rattle.rules.specs.Steps.{x-not-negative, normal-literal, normal}
+use Rattle.rules.specs.Steps.{common-factor, multiplier, times, sign, scale-literal, scaled}
+use Rattle.rules.specs.Steps.{bound-of, without, once, bounds, far-literal, far-left}
+use Rattle.rules.specs.Steps.{sum-at, body-at, for-each, disjuncts, any-of, disjunction}
 use Rattle.rules.specs.Eliminate.{divisor-over, over-limit}
 use Rattle.rules.specs.Laws.{DivisorOf, Each, InTable, WellFormed, Normal, NoZero, UnitFactor}
 use Rattle.rules.proofs.Sums.{factor-put, length-scale, length-add, length-put}
 use Rattle.rules.proofs.Folding.{ByParts}
-use Rattle.rules.proofs.OverLiterals.{normal-imp, normal-both, each-imp, each-normal, map-normal, gathered-all}
-use Rattle.rules.proofs.CommonFactor.{SizeDivides, sizes-divide, common-factor-pos, Multiplies, multiplies}
+use Rattle.rules.proofs.OverLiterals.{normal-both, each-imp, each-normal, map-normal, gathered-all}
+use Rattle.rules.proofs.CommonFactor.{SizeDivides, sizes-divide, common-factor-pos, multiplies}
 
 -- ---- conditions on literals go by parts
 

@@ -1,34 +1,38 @@
 -- Elimination is sound: step table by step table the meaning stays, no setting becomes free, and each round takes a quantifier away.
 -- Assumes nothing.
-use mathlib.Core.Path.{_≡_, refl, sym, _∙_, ap, subst}
+use mathlib.Core.Path.{_≡_, refl, sym, subst}
 use mathlib.Core.Logic.{_↔_, Iff·rfl, Iff·trans}
 use mathlib.Core.Bool.{Bool, true, false, not}
 use Prim.Native.Nat.{ℕ, zero, suc, _+_, _≤_, _<_}
 use native.Mathlib.Omega.{arith}
-use lib.Dec.{T, T-not, leb, leb→le, ltb, ltb→lt, nltb→le}
+use lib.Dec.{T, leb, leb→le, ltb→lt, nltb→le}
 use lib.IntN.{pos}
-use Rattle.whole.proofs.Tests.{T-and, T-dec}
-use Rattle.rules.specs.Sum.{Sum, Choice, with}
-use Rattle.rules.specs.Rule.{Quantifier, for-some, for-all, Test, Rule, Not, Bind, Some, All, Holds}
-use Rattle.rules.specs.Result.{Result, given, _>>=_, require}
+use Rattle.whole.proofs.Tests.{T-and}
+use Rattle.rules.specs.Rule.{Quantifier, for-some, for-all, Rule, Not, Bind, Some, All, Holds}
+use Rattle.rules.specs.Result.{Result, given, _>>=_}
 use Rattle.rules.specs.Table.{size, is-setting}
 use Rattle.rules.specs.Fold.{fold, fold-not}
-use Rattle.rules.specs.Chosen.{Chosen, nothing, the, quantifiers, quantified, chosen, replace}
+use Rattle.rules.specs.Chosen.{Chosen, the, quantifiers, quantified, chosen, replace}
 use Rattle.rules.specs.Literals.{some-literal}
 use Rattle.rules.specs.Steps.{by-some, normal, common-factor, scaled, period, disjunction}
-use Rattle.rules.specs.Eliminate.{over-limit, step-table, on-chosen, for-all-step, normal-step, most-period, common-step, disjunction-step, round, rounds, eliminate}
+use Rattle.rules.specs.Eliminate.{over-limit, step-table, on-chosen, for-all-step, normal-step}
+use Rattle.rules.specs.Eliminate.{most-period, common-step, disjunction-step, round, rounds, eliminate}
 use Rattle.rules.specs.Answer.{occurs}
-use Rattle.rules.specs.Laws.{Same, QuantifierFree, DivisorOf, Each, WellFormed, Normal, NoZero, UnitFactor, free, Eliminated, Sound}
+use Rattle.rules.specs.Laws.{Same, QuantifierFree, DivisorOf, Each, WellFormed}
+use Rattle.rules.specs.Laws.{Normal, NoZero, UnitFactor, free, Sound}
 use Rattle.rules.proofs.Refusals.{given-inj, parts, required}
 use Rattle.rules.proofs.Meaning.{bind-same, same-trans, for-all-keeps}
 use Rattle.rules.proofs.Folding.{Open, Folded, folded-fold, fold-keeps, keep-fold, free-by-parts, fewer-fold}
-use Rattle.rules.proofs.Choosing.{Put, put, put-body, put-keeps, put-parts, put-each, put-count, put-next, put-fold, is-chosen, chosen-of-free}
+use Rattle.rules.proofs.Choosing.{Put, put, put-body, put-keeps, put-parts, put-each}
+use Rattle.rules.proofs.Choosing.{put-count, put-next, put-fold, is-chosen, chosen-of-free}
 use Rattle.rules.proofs.NormalForm.{normal-keeps, normal-normal}
 use Rattle.rules.proofs.OverLiterals.{normal-imp, normal-each, normal-free, each-imp, each-normal}
 use Rattle.rules.proofs.CommonFactor.{common-factor-keeps}
 use Rattle.rules.proofs.Disjunction.{disjunction-keeps}
-use Rattle.rules.proofs.Shapes.{each-by-parts, normal-by-parts, Shape, formed-shape, fits-formed, normal-shape, Scaled, scaled-normal, Seven, shape-substitutes, disjunction-normal}
-use Rattle.rules.proofs.Freedom.{NotFree, not-free-by-parts, some-normal-frees, some-scaled-frees, disjunction-frees, not-free-by-test, occurs-not-free}
+use Rattle.rules.proofs.Shapes.{each-by-parts, normal-by-parts, Shape, formed-shape, fits-formed, normal-shape}
+use Rattle.rules.proofs.Shapes.{Scaled, scaled-normal, Seven, shape-substitutes, disjunction-normal}
+use Rattle.rules.proofs.Freedom.{NotFree, not-free-by-parts, some-normal-frees, some-scaled-frees}
+use Rattle.rules.proofs.Freedom.{disjunction-frees, not-free-by-test, occurs-not-free}
 
 -- ---- a step table
 

@@ -1,8 +1,7 @@
 -- What the operations on sums do to a sum's value, and the value split into the part of one setting x and the rest.
 -- Assumes nothing.
 use mathlib.Core.Path.{_≡_, refl, sym, _∙_, ap, ap₂, fun-ext}
-use mathlib.Core.Bool.{Bool, true, false, _&&_}
-use mathlib.Core.List.{List, [], _∷_}
+use mathlib.Core.List.{[], _∷_}
 use Prim.Native.Nat.{ℕ, zero, suc, _≤_}
 use native.Mathlib.Nat.{suc-inj, suc-ne-zero, not-suc-le-zero, le-of-suc-le-suc}
 use native.Mathlib.Omega.{arith}
@@ -11,9 +10,10 @@ use lib.ListN.{length}
 use lib.IntN.{ℤ, pos, negsuc, negℤ, _+ℤ_, _*ℤ_, +ℤ-idl, +ℤ-idr, *ℤ-zero}
 use Rattle.whole.specs.Integers.{eqZ}
 use Rattle.whole.proofs.Tests.{T-and, cond-ind, eqZ→eq}
-use Rattle.whole.proofs.Difference.{zz, z1, z2, z3, z4, z5}
+use Rattle.whole.proofs.Difference.{zz, z1, z3, z4, z5}
 use Rattle.whole.proofs.Ring.{rr, ring, r4}
-use Rattle.rules.specs.Sum.{Sum, Choice, with, factor, add, scale, negate, put, number, setting, one-plus, one-minus, all-zero, no-factors, dot, places, value}
+use Rattle.rules.specs.Sum.{Sum, Choice, with, factor, add, scale, negate, put, number, setting}
+use Rattle.rules.specs.Sum.{one-plus, one-minus, all-zero, no-factors, dot, places, value}
 
 -- ---- the words, each times what stands beside it
 

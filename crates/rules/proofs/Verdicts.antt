@@ -1,37 +1,39 @@
 -- Every rule is decided, a closed rule is answered rightly, and the leave-off test is right in both verdicts.
 -- Assumes nothing.
 use mathlib.Core.Path.{_≡_, refl, sym, _∙_, ap, subst, fun-ext}
-use mathlib.Core.Logic.{_↔_, _⊎_, inl, inr, Iff·rfl, Iff·trans, Iff·symm, Iff·not}
-use mathlib.Core.Bool.{Bool, true, false, not, _&&_, _||_, cond}
+use mathlib.Core.Logic.{_⊎_, inl, inr, Iff·rfl, Iff·trans, Iff·not}
+use mathlib.Core.Bool.{true, false, _||_}
 use mathlib.Core.List.{List, [], _∷_}
-use Prim.Native.Nat.{ℕ, zero, suc, _+_, _≤_, _<_}
-use native.Mathlib.Decide.{ℕ-discrete}
+use Prim.Native.Nat.{ℕ, zero, suc, _≤_}
 use native.Mathlib.Omega.{arith}
 use lib.Dec.{T, T-not, eqb, eqb→eq, leb}
 use lib.IntN.{ℤ, pos, negsuc, natAbs}
-use lib.ListN.{length, List·getD-eq-default}
+use lib.ListN.{List·getD-eq-default}
 use Rattle.whole.specs.Integers.{eqZ}
 use Rattle.whole.proofs.Tests.{T-and, T-or, cond-ind, eq→eqZ}
 use Rattle.whole.proofs.Lists.{All, Any}
 use Rattle.rules.specs.Sum.{Sum, Choice, with, factor, all-zero, no-factors}
-use Rattle.rules.specs.Rule.{Junction, Quantifier, for-some, for-all, Test, Rule, Constant, Join, Not, Literal, Bind, True, False, And, Some, All as ForAll, Holds}
-use Rattle.rules.specs.Result.{given, _>>=_, require}
+use Rattle.rules.specs.Rule.{for-some, for-all}
+use Rattle.rules.specs.Rule.{Rule, Constant, Join, Not, Literal, Bind, True, False, And, Some, Holds}
+use Rattle.rules.specs.Result.{given}
 use Rattle.rules.specs.Table.{size, is-setting}
 use Rattle.rules.specs.Fold.{divisor-one}
 use Rattle.rules.specs.Chosen.{quantifiers}
-use Rattle.rules.specs.Steps.{by-some, normal, common-factor, scaled, period, disjunction}
+use Rattle.rules.specs.Steps.{normal, common-factor, scaled, period, disjunction}
 use Rattle.rules.specs.Eliminate.{eliminate}
 use Rattle.rules.specs.LeaveOff.{all-settings, others, some-of-each, question, leave-off}
-use Rattle.rules.specs.Laws.{Same, QuantifierFree, Each, InTable, WellFormed, Normal, NoZero, UnitFactor, Closed, Verdict, ClosedRight, Decided, Matters, MayGo, LeaveOffRight}
+use Rattle.rules.specs.Laws.{Same, QuantifierFree, Each, WellFormed, Normal, NoZero, UnitFactor}
+use Rattle.rules.specs.Laws.{Verdict, ClosedRight, Decided, Matters, MayGo, LeaveOffRight}
 use Rattle.rules.proofs.Refusals.{required}
-use Rattle.rules.proofs.Meaning.{joined-iff, bind-same, same-trans, join-free, not-free, bind-free, dec-iff, decided, for-all-keeps}
+use Rattle.rules.proofs.Meaning.{joined-iff, bind-same, same-trans, join-free, not-free}
+use Rattle.rules.proofs.Meaning.{bind-free, dec-iff, decided, for-all-keeps}
 use Rattle.rules.proofs.Folding.{Open, Folded}
 use Rattle.rules.proofs.NormalForm.{normal-keeps, normal-normal}
-use Rattle.rules.proofs.OverLiterals.{normal-imp, normal-each, normal-free, each-imp}
+use Rattle.rules.proofs.OverLiterals.{normal-imp, normal-each, each-imp}
 use Rattle.rules.proofs.CommonFactor.{common-factor-keeps}
 use Rattle.rules.proofs.Shapes.{Shape, formed-shape, normal-shape, Scaled, scaled-normal}
 use Rattle.rules.proofs.Freedom.{Off, NotFree, not-free-by-test}
-use Rattle.rules.proofs.Soundness.{Follows, Serves, setting-range, disjunction-serves, eliminate-follows}
+use Rattle.rules.proofs.Soundness.{Serves, setting-range, disjunction-serves, eliminate-follows}
 
 -- ---- an equal rule without quantifiers, by the steps without limits
 
