@@ -56,6 +56,13 @@ sizes-divide x a n =
     let sizes : List ℕ = gather (size-of x) a in
     all-gathered (size-of x) NoZero (λ k. Divides k (pos (lcms sizes))) a n (lcms-divided sizes)
 
+-- what a literal must be to be multiplied
+abbrev pub Scalable : ℕ → ℕ → Test → Sum → Type 0
+Scalable D x t s = NoZero t s × SizeDivides D x t s
+
+pub all-scalable : (x : ℕ) (a : Rule) → Normal NoZero a → Normal (Scalable (common-factor x a) x) a
+all-scalable x a n = normal-both NoZero (SizeDivides (common-factor x a) x) a n (sizes-divide x a n)
+
 -- ---- the multiplier m is positive, and m times the factor is its sign times D
 
 pub record Multiplies (D : ℕ) (f : ℤ) (m : ℕ) : Type 0 where
@@ -122,13 +129,10 @@ module _ (D x : ℕ) (z : ℤ) (ρ : Choice) (g : 1 ≤ x) where
   scaled-test (divisible b k) s m v n p = whether-iff b (divides-scale p k v)
   scaled-test is-zero s m v n p = absurd n
 
-  abbrev Scalable : Test → Sum → Type 0
-  Scalable t s = NoZero t s × SizeDivides D x t s
-
   abbrev Keeps : Test → Sum → Type 0
   Keeps t s = Holds (scale-literal D x t s) called ↔ Passes t (value s was)
 
-  literal-keeps : 0 < D → (t : Test) (s : Sum) → Scalable t s → Keeps t s
+  literal-keeps : 0 < D → (t : Test) (s : Sum) → Scalable D x t s → Keeps t s
   unfolding scale-literal Holds
   literal-keeps h t s n =
       let m : ℕ = multiplier D x s in
@@ -137,8 +141,9 @@ module _ (D x : ℕ) (z : ℤ) (ρ : Choice) (g : 1 ≤ x) where
       (at-equal (Passes (times m t)) (value-scaled s m u))
       (scaled-test t s m (value s was) (n .0) (u .positive))
 
-  body-keeps : 0 < D → (a : Rule) → Normal Scalable a → Holds (map-literals (scale-literal D x) a) called ↔ Holds a was
-  body-keeps h a n = map-keeps (scale-literal D x) called was a (normal-imp Scalable Keeps (literal-keeps h) a n)
+  body-keeps : 0 < D → (a : Rule) → Normal (Scalable D x) a
+      → Holds (map-literals (scale-literal D x) a) called ↔ Holds a was
+  body-keeps h a n = map-keeps (scale-literal D x) called was a (normal-imp (Scalable D x) Keeps (literal-keeps h) a n)
 
 pub common-factor-keeps : CommonFactorKeeps
 unfolding scaled Holds
@@ -151,8 +156,7 @@ common-factor-keeps x a g n ρ = (divided, multiplied)
     Body y = Holds (map-literals (scale-literal D x) a) (with x y ρ)
 
     body : (z : ℤ) → Body (pos D *ℤ z) ↔ Holds a (with x z ρ)
-    body z = body-keeps D x z ρ g (common-factor-pos x a n) a
-        (normal-both NoZero (SizeDivides D x) a n (sizes-divide x a n))
+    body z = body-keeps D x z ρ g (common-factor-pos x a n) a (all-scalable x a n)
 
     divided : Holds (Some x (scaled D x a)) ρ → Holds (Some x a) ρ
     divided (y, (holds, is-multiple)) =
