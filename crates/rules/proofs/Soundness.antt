@@ -7,7 +7,6 @@ use Prim.Native.Nat.{ℕ, zero, suc, _+_, _≤_, _<_}
 use native.Mathlib.Omega.{arith}
 use lib.Dec.{T, leb, leb→le, ltb→lt, nltb→le}
 use lib.IntN.{pos}
-use Rattle.whole.proofs.Tests.{T-and}
 use Rattle.rules.specs.Rule.{Quantifier, for-some, for-all, Rule, Not, Bind, Some, All, Holds}
 use Rattle.rules.specs.Result.{Result, given, _>>=_}
 use Rattle.rules.specs.Table.{size, is-setting}
@@ -21,6 +20,7 @@ use Rattle.rules.specs.Answer.{occurs}
 use Rattle.rules.specs.Laws.{Same, QuantifierFree, DivisorOf, Each, WellFormed}
 use Rattle.rules.specs.Laws.{Normal, NoZero, UnitFactor, free, Sound}
 use Rattle.rules.proofs.Refusals.{given-inj, parts, required}
+pub use Rattle.rules.proofs.Encoding.{setting-range}
 use Rattle.rules.proofs.Meaning.{bind-same, same-trans, for-all-keeps}
 use Rattle.rules.proofs.Folding.{Open, Folded, folded-fold, fold-keeps, keep-fold, free-by-parts, fewer-fold}
 use Rattle.rules.proofs.Choosing.{Put, put, put-body, put-keeps, put-parts, put-each}
@@ -108,12 +108,6 @@ pub record State (room : ℕ) (r₀ r : Rule) (x : ℕ) (a : Rule) : Type 0 wher
   pub body : QuantifierFree a
   pub setting : T (is-setting (pos x))
   pub shape : Each Shape a
-
-pub setting-range : (x : ℕ) → T (is-setting (pos x)) → (1 ≤ x) × (x < 7)
-unfolding is-setting
-setting-range x h =
-    let k = T-and (leb 1 x) (leb x 6) .0 h in
-    (leb→le 1 x (k .0), omega (arith, leb→le x 6 (k .1)))
 
 state : (room : ℕ) (r₀ r : Rule) (x : ℕ) (a : Rule) → Follows room r₀ r → chosen r ≡ the for-some x a → State room r₀ r x a
 state room r₀ r x a s e =
