@@ -32,13 +32,13 @@ use Rattle.rules.proofs.OverLiterals.{normal-imp, normal-both, gathered
 
 sizes-positive : (x : ℕ) (t : Test) (s : Sum) → All (λ k. 0 < k) (size-of x t s)
 unfolding size-of All
-sizes-positive x t s = go (factor x s)
+sizes-positive x t s = by-factor (factor x s)
   where
-    go : (f : ℤ) → All (λ k. 0 < k) (cond (not (eqZ f (pos 0))) (natAbs f ∷ []) [])
-    go (pos zero) = tt
-    go (pos (suc n)) =
+    by-factor : (f : ℤ) → All (λ k. 0 < k) (cond (not (eqZ f (pos 0))) (natAbs f ∷ []) [])
+    by-factor (pos zero) = tt
+    by-factor (pos (suc n)) =
         cond-ind (not (eqZ (pos (suc n)) (pos 0))) (suc n ∷ []) [] (All (λ k. 0 < k)) (λ h. (omega arith, tt)) (λ h. tt)
-    go (negsuc n) = (omega arith, tt)
+    by-factor (negsuc n) = (omega arith, tt)
 
 pub common-factor-pos : (x : ℕ) (a : Rule) → Normal NoZero a → 0 < common-factor x a
 unfolding common-factor
@@ -78,15 +78,15 @@ one-times D n e = ap pos (e ∙ omega arith)
 pub multiplies : (D x : ℕ) (t : Test) (s : Sum) → 0 < D → SizeDivides D x t s
     → Multiplies D (factor x s) (multiplier D x s)
 unfolding SizeDivides size-of multiplier All
-multiplies D x t s h = go (factor x s)
+multiplies D x t s h = by-factor (factor x s)
   where
-    go : (f : ℤ) → All (λ k. Divides k (pos D)) (cond (not (eqZ f (pos 0))) (natAbs f ∷ []) [])
+    by-factor : (f : ℤ) → All (λ k. Divides k (pos D)) (cond (not (eqZ f (pos 0))) (natAbs f ∷ []) [])
         → Multiplies D f (cond (not (eqZ f (pos 0))) (D / natAbs f) 1)
-    go (pos zero) d = record { positive = omega arith; to-D = law (pos D) }
+    by-factor (pos zero) d = record { positive = omega arith; to-D = law (pos D) }
       where
         law : (D : ℤ) → pos 0 ≡ pos 0 *ℤ D
         law = z1 _ (simp zz (omega arith))
-    go (pos (suc n)) d = nonzero (eqb (suc n) 0) (eqb·suc-zero n) d
+    by-factor (pos (suc n)) d = nonzero (eqb (suc n) 0) (eqb·suc-zero n) d
       where
         nonzero : (c : Bool) → c ≡ false → All (λ k. Divides k (pos D)) (cond (not c) (suc n ∷ []) [])
             → Multiplies D (pos (suc n)) (cond (not c) (D / suc n) 1)
@@ -94,7 +94,7 @@ multiplies D x t s h = go (factor x s)
         nonzero false e d =
             let q = by-quotient D n h (d .0) in
             record { positive = q .0; to-D = one-times D (D / suc n * suc n) (q .1) }
-    go (negsuc n) d =
+    by-factor (negsuc n) d =
         let q = by-quotient D n h (d .0) in
         record { positive = q .0; to-D = ap negℤ (one-times D (D / suc n * suc n) (q .1)) ∙ law (pos D) }
       where
