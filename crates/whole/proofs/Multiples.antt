@@ -123,8 +123,9 @@ divides-antisym (suc a) (suc b) h k = omega (arith, at-most h, at-most k)
         omega (arith, quotient-exact g (suc n) d, mul-le-mul-left g some)
 
 pub gcd-unique : {a b g h : ℕ} → GreatestCommonDivisor a b g → GreatestCommonDivisor a b h → g ≡ h
-gcd-unique {g} {h} first second =
-    divides-antisym g h (second .greatest g (first .left) (first .right)) (first .greatest h (second .left) (second .right))
+gcd-unique {g} {h} first second = divides-antisym g h
+    (second .greatest g (first .left) (first .right))
+    (first .greatest h (second .left) (second .right))
 
 -- ---- the least common multiple
 
@@ -187,8 +188,9 @@ lcm-is a b =
     }
 
 pub lcm-unique : {a b m n : ℕ} → LeastCommonMultiple a b m → LeastCommonMultiple a b n → m ≡ n
-lcm-unique {m} {n} first second =
-    divides-antisym m n (first .least n (second .left) (second .right)) (second .least m (first .left) (first .right))
+lcm-unique {m} {n} first second = divides-antisym m n
+    (first .least n (second .left) (second .right))
+    (second .least m (first .left) (first .right))
 
 pub lcm-pos : {a b : ℕ} → 0 < a → 0 < b → 0 < lcm a b
 unfolding lcm
