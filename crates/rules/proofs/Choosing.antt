@@ -193,19 +193,24 @@ module _ {q : Quantifier} {x : ℕ} {a new : Rule} where
   put-open o (in-not p) = tt
   put-open o (in-bind p) = tt
 
+-- a side that is folded already stays beside what is open
+folded-right : (j : Junction) (a b : Rule) → Open a → Open b → Folded b → fold-join j a (fold b) ≡ Join j a b
+folded-right j a b open-a open-b h = ap (fold-join j a) (fold-folded b h) ∙ join-open j a b open-a open-b
+
+folded-left : (j : Junction) (a b : Rule) → Open a → Open b → Folded a → fold-join j (fold a) b ≡ Join j a b
+folded-left j a b open-a open-b h = ap (λ c. fold-join j c b) (fold-folded a h) ∙ join-open j a b open-a open-b
+
 pub put-fold : {q : Quantifier} {x : ℕ} {a new r s : Rule} → Open (fold new) → Put q x a new r s → Folded r
     → Put q x a (fold new) r (fold s)
 unfolding fold Folded
 put-fold o (here e) h = here e
 put-fold {q = q} {x = x} {a = a} {new = new} o (in-left {j = j} {r = r} {s = s} {b = b} p e) h =
     let k : Put q x a (fold new) r (fold s) = put-fold o p (h .2) in
-    let stays : fold-join j (fold s) (fold b) ≡ Join j (fold s) b =
-    ap (fold-join j (fold s)) (fold-folded b (h .3)) ∙ join-open j (fold s) b (put-open o k) (h .1) in
+    let stays = folded-right j (fold s) b (put-open o k) (h .1) (h .3) in
     subst (Put q x a (fold new) (Join j r b)) (sym stays) (in-left k e)
 put-fold {q = q} {x = x} {a = a} {new = new} o (in-right {j = j} {b = b} {r = r} {s = s} p) h =
     let k : Put q x a (fold new) r (fold s) = put-fold o p (h .3) in
-    let stays : fold-join j (fold b) (fold s) ≡ Join j b (fold s) =
-    ap (λ c. fold-join j c (fold s)) (fold-folded b (h .2)) ∙ join-open j b (fold s) (h .0) (put-open o k) in
+    let stays = folded-left j b (fold s) (h .0) (put-open o k) (h .2) in
     subst (Put q x a (fold new) (Join j b r)) (sym stays) (in-right k)
 put-fold {q = q} {x = x} {a = a} {new = new} o (in-not {r = r} {s = s} p) h =
     let k : Put q x a (fold new) r (fold s) = put-fold o p (h .1) in
