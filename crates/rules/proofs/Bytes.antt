@@ -5,21 +5,24 @@ use mathlib.Core.Bool.{true, false}
 use mathlib.Core.List.{List, [], _∷_, _++_, append-assoc, append-nil}
 use Prim.Native.Nat.{ℕ, suc, _+_, _*_, _-_, _/_, _%_, _≤_}
 use native.Mathlib.Omega.{arith}
-use lib.Dec.{T, eqb, ltb, leb, leb→le, le→leb, ltb→lt, nltb→le}
+use lib.Dec.{T, eqb, ltb, leb→le, le→leb, ltb→lt, nltb→le}
 use lib.IntN.{ℤ, pos, negsuc, _+ℤ_}
 use lib.ListN.{length}
 use Rattle.whole.specs.Integers.{within}
 use Rattle.whole.proofs.Tests.{T-and, cond-ind}
 use Rattle.rules.specs.Sum.{limit, all-within}
-use Rattle.rules.specs.Rule.{and, or, for-some, for-all, positive, divisible, is-zero, Rule, Constant, Join, Not, Literal, Bind}
+use Rattle.rules.specs.Rule.{and, or, for-some, for-all, positive, divisible, is-zero}
+use Rattle.rules.specs.Rule.{Rule, Constant, Join, Not, Literal, Bind}
 use Rattle.rules.specs.Result.{given}
-use Rattle.rules.specs.Table.{Node, constant-node, join-node, not-node, literal-node, bind-node, most-words, body, width, count, nodes, bodies, starts, encode, size, is-setting, is-divisor}
+use Rattle.rules.specs.Table.{Node, constant-node, join-node, not-node, literal-node, bind-node}
+use Rattle.rules.specs.Table.{most-words, body, width, count, nodes, bodies}
+use Rattle.rules.specs.Table.{starts, encode, size, is-setting, is-divisor}
 use Rattle.rules.specs.Decode.{decode}
 use Rattle.rules.specs.Calls.{signed, bits, words, bytes-of, rule-of}
 use Rattle.rules.specs.Laws.{Each, WellFormed}
 use Rattle.rules.proofs.Refusals.{then, passed, required}
 use Rattle.rules.proofs.Sizes.{total, words as words-in, weight, length-body, length-nodes, weight-is, size-is}
-use Rattle.rules.proofs.Encoding.{Good, decode-encode}
+use Rattle.rules.proofs.Encoding.{setting-range, divisor-range, Good, decode-encode}
 use Rattle.rules.proofs.Decoding.{decode-forth}
 
 -- ---- words
@@ -93,12 +96,11 @@ Near i (literal-node t s) = Unit {0}
 Near i (bind-node q v) = Unit {0}
 
 setting-within : (v : ℕ) → T (is-setting (pos v)) → T (within limit (pos v))
-unfolding is-setting
-setting-within v t = le→leb v limit (omega (arith, leb→le v 6 (T-and (leb 1 v) (leb v 6) .0 t .1)))
+setting-within v t = le→leb v limit (omega (arith, setting-range v t .1))
 
 divisor-within : (k : ℕ) (s ws : List ℤ) → T (is-divisor (pos k)) → Within s → Within ws → Within (pos k ∷ s ++ ws)
-unfolding is-divisor
-divisor-within k s ws d u t = after (pos k) (s ++ ws) (T-and (leb 1 k) (leb k limit) .0 d .1) (within-append s ws u t)
+divisor-within k s ws d u t =
+    after (pos k) (s ++ ws) (le→leb k limit (divisor-range k d .1)) (within-append s ws u t)
 
 body-within : (i : ℕ) (d : Node) (ws : List ℤ) → Good d → Near i d → Within ws → Within (body i d ++ ws)
 unfolding body Good Near all-within

@@ -1,26 +1,26 @@
 -- Step 2 keeps the meaning of for some x: D·x is called x.
 -- Assumes nothing.
 use mathlib.Core.Path.{_≡_, refl, sym, _∙_, ap, subst}
-use mathlib.Core.Logic.{_↔_, Iff·rfl, Iff·trans}
+use mathlib.Core.Logic.{_↔_, Iff·trans}
 use mathlib.Core.Bool.{Bool, true, false, not, cond, true≢false}
 use mathlib.Core.List.{List, [], _∷_}
 use Prim.Native.Nat.{ℕ, zero, suc, _*_, _/_, _≤_, _<_}
 use native.Mathlib.Nat.{mul-comm}
 use native.Mathlib.Omega.{arith}
-use lib.Dec.{T, eqb, eqb·suc-zero}
+use lib.Dec.{eqb, eqb·suc-zero}
 use lib.IntN.{ℤ, pos, negsuc, negℤ, natAbs, _+ℤ_, _*ℤ_}
 use Rattle.whole.specs.Integers.{eqZ}
 use Rattle.whole.specs.Divides.{Divides}
 use Rattle.whole.specs.Multiples.{lcms}
 use Rattle.whole.proofs.Tests.{cond-ind}
 use Rattle.whole.proofs.Lists.{All}
-use Rattle.whole.proofs.Difference.{zz, z1, z5}
+use Rattle.whole.proofs.Difference.{zz, z1}
 use Rattle.whole.proofs.Ring.{rr, ring, r4}
 use Rattle.whole.proofs.Order.{positive-scale, *ℤ-assoc}
 use Rattle.whole.proofs.Divisibility.{divides-scale, divides-times}
 use Rattle.whole.proofs.Multiples.{quotient-exact, quotient-pos, lcms-pos, lcms-divided}
-use Rattle.rules.specs.Sum.{Sum, Choice, with, factor, has, put, scale, setting, value}
-use Rattle.rules.specs.Rule.{Test, positive, divisible, is-zero, Rule, Constant, Join, Not, Literal, Bind, Some, Passes, Holds}
+use Rattle.rules.specs.Sum.{Sum, Choice, with, factor, put, scale, value}
+use Rattle.rules.specs.Rule.{Test, positive, divisible, is-zero, Rule, Some, Passes, Holds}
 use Rattle.rules.specs.Literals.{gather, map-literals}
 use Rattle.rules.specs.Steps.{size-of, common-factor, multiplier, times, sign, scale-literal, scaled}
 use Rattle.rules.specs.Laws.{Normal, NoZero, CommonFactorKeeps}
@@ -32,17 +32,19 @@ use Rattle.rules.proofs.OverLiterals.{normal-imp, normal-both, gathered
 
 sizes-positive : (x : ℕ) (t : Test) (s : Sum) → All (λ k. 0 < k) (size-of x t s)
 unfolding size-of All
-sizes-positive x t s = go (factor x s)
+sizes-positive x t s = by-factor (factor x s)
   where
-    go : (f : ℤ) → All (λ k. 0 < k) (cond (not (eqZ f (pos 0))) (natAbs f ∷ []) [])
-    go (pos zero) = tt
-    go (pos (suc n)) = cond-ind (not (eqZ (pos (suc n)) (pos 0))) (suc n ∷ []) [] (All (λ k. 0 < k)) (λ h. (omega arith, tt)) (λ h. tt)
-    go (negsuc n) = (omega arith, tt)
+    by-factor : (f : ℤ) → All (λ k. 0 < k) (cond (not (eqZ f (pos 0))) (natAbs f ∷ []) [])
+    by-factor (pos zero) = tt
+    by-factor (pos (suc n)) =
+        cond-ind (not (eqZ (pos (suc n)) (pos 0))) (suc n ∷ []) [] (All (λ k. 0 < k)) (λ h. (omega arith, tt)) (λ h. tt)
+    by-factor (negsuc n) = (omega arith, tt)
 
 pub common-factor-pos : (x : ℕ) (a : Rule) → Normal NoZero a → 0 < common-factor x a
 unfolding common-factor
 common-factor-pos x a n =
-    lcms-pos (gather (size-of x) a) (gathered-all (size-of x) NoZero (λ k. 0 < k) (λ t s h. sizes-positive x t s) a n)
+    let sizes : List ℕ = gather (size-of x) a in
+    lcms-pos sizes (gathered-all (size-of x) NoZero (λ k. 0 < k) (λ t s h. sizes-positive x t s) a n)
 
 -- the size of the literal's factor, where it has one, divides D
 pub SizeDivides : ℕ → ℕ → Test → Sum → Type 0
@@ -51,7 +53,15 @@ SizeDivides D x t s = All (λ k. Divides k (pos D)) (size-of x t s)
 pub sizes-divide : (x : ℕ) (a : Rule) → Normal NoZero a → Normal (SizeDivides (common-factor x a) x) a
 unfolding common-factor SizeDivides
 sizes-divide x a n =
-    all-gathered (size-of x) NoZero (λ k. Divides k (pos (lcms (gather (size-of x) a)))) a n (lcms-divided (gather (size-of x) a))
+    let sizes : List ℕ = gather (size-of x) a in
+    all-gathered (size-of x) NoZero (λ k. Divides k (pos (lcms sizes))) a n (lcms-divided sizes)
+
+-- what a literal must be to be multiplied
+abbrev pub Scalable : ℕ → ℕ → Test → Sum → Type 0
+Scalable D x t s = NoZero t s × SizeDivides D x t s
+
+pub all-scalable : (x : ℕ) (a : Rule) → Normal NoZero a → Normal (Scalable (common-factor x a) x) a
+all-scalable x a n = normal-both NoZero (SizeDivides (common-factor x a) x) a n (sizes-divide x a n)
 
 -- ---- the multiplier m is positive, and m times the factor is its sign times D
 
@@ -65,17 +75,18 @@ by-quotient D n h d = (quotient-pos h d, mul-comm (D / suc n) (suc n) ∙ sym (q
 one-times : (D n : ℕ) → n ≡ D → pos n ≡ pos 1 *ℤ pos D
 one-times D n e = ap pos (e ∙ omega arith)
 
-pub multiplies : (D x : ℕ) (t : Test) (s : Sum) → 0 < D → SizeDivides D x t s → Multiplies D (factor x s) (multiplier D x s)
+pub multiplies : (D x : ℕ) (t : Test) (s : Sum) → 0 < D → SizeDivides D x t s
+    → Multiplies D (factor x s) (multiplier D x s)
 unfolding SizeDivides size-of multiplier All
-multiplies D x t s h = go (factor x s)
+multiplies D x t s h = by-factor (factor x s)
   where
-    go : (f : ℤ) → All (λ k. Divides k (pos D)) (cond (not (eqZ f (pos 0))) (natAbs f ∷ []) [])
+    by-factor : (f : ℤ) → All (λ k. Divides k (pos D)) (cond (not (eqZ f (pos 0))) (natAbs f ∷ []) [])
         → Multiplies D f (cond (not (eqZ f (pos 0))) (D / natAbs f) 1)
-    go (pos zero) d = record { positive = omega arith; to-D = law (pos D) }
+    by-factor (pos zero) d = record { positive = omega arith; to-D = law (pos D) }
       where
         law : (D : ℤ) → pos 0 ≡ pos 0 *ℤ D
         law = z1 _ (simp zz (omega arith))
-    go (pos (suc n)) d = nonzero (eqb (suc n) 0) (eqb·suc-zero n) d
+    by-factor (pos (suc n)) d = nonzero (eqb (suc n) 0) (eqb·suc-zero n) d
       where
         nonzero : (c : Bool) → c ≡ false → All (λ k. Divides k (pos D)) (cond (not c) (suc n ∷ []) [])
             → Multiplies D (pos (suc n)) (cond (not c) (D / suc n) 1)
@@ -83,7 +94,7 @@ multiplies D x t s h = go (factor x s)
         nonzero false e d =
             let q = by-quotient D n h (d .0) in
             record { positive = q .0; to-D = one-times D (D / suc n * suc n) (q .1) }
-    go (negsuc n) d =
+    by-factor (negsuc n) d =
         let q = by-quotient D n h (d .0) in
         record { positive = q .0; to-D = ap negℤ (one-times D (D / suc n * suc n) (q .1)) ∙ law (pos D) }
       where
@@ -99,7 +110,8 @@ module _ (D x : ℕ) (z : ℤ) (ρ : Choice) (g : 1 ≤ x) where
   abbrev was : Choice
   was = with x z ρ
 
-  value-scaled : (s : Sum) (m : ℕ) → Multiplies D (factor x s) m → value (put x (sign (factor x s)) (scale (pos m) s)) called ≡ pos m *ℤ value s was
+  value-scaled : (s : Sum) (m : ℕ) → Multiplies D (factor x s) m
+      → value (put x (sign (factor x s)) (scale (pos m) s)) called ≡ pos m *ℤ value s was
   value-scaled s m u =
       value-put x (sign (factor x s)) (scale (pos m) s) (pos D *ℤ z) ρ g
       ∙ ap (λ r. sign (factor x s) *ℤ (pos D *ℤ z) +ℤ r) (rest-scale x (pos m) s ρ)
@@ -117,27 +129,41 @@ module _ (D x : ℕ) (z : ℤ) (ρ : Choice) (g : 1 ≤ x) where
   scaled-test (divisible b k) s m v n p = whether-iff b (divides-scale p k v)
   scaled-test is-zero s m v n p = absurd n
 
-  literal-keeps : (t : Test) (s : Sum) → 0 < D → NoZero t s × SizeDivides D x t s → Holds (scale-literal D x t s) called ↔ Passes t (value s was)
+  abbrev Keeps : Test → Sum → Type 0
+  Keeps t s = Holds (scale-literal D x t s) called ↔ Passes t (value s was)
+
+  literal-keeps : 0 < D → (t : Test) (s : Sum) → Scalable D x t s → Keeps t s
   unfolding scale-literal Holds
-  literal-keeps t s h n =
-      let u : Multiplies D (factor x s) (multiplier D x s) = multiplies D x t s h (n .1) in
+  literal-keeps h t s n =
+      let m : ℕ = multiplier D x s in
+      let u : Multiplies D (factor x s) m = multiplies D x t s h (n .1) in
       Iff·trans
-      (at-equal (Passes (times (multiplier D x s) t)) (value-scaled s (multiplier D x s) u))
-      (scaled-test t s (multiplier D x s) (value s was) (n .0) (u .positive))
+      (at-equal (Passes (times m t)) (value-scaled s m u))
+      (scaled-test t s m (value s was) (n .0) (u .positive))
+
+  body-keeps : 0 < D → (a : Rule) → Normal (Scalable D x) a
+      → Holds (map-literals (scale-literal D x) a) called ↔ Holds a was
+  body-keeps h a n = map-keeps (scale-literal D x) called was a (normal-imp (Scalable D x) Keeps (literal-keeps h) a n)
 
 pub common-factor-keeps : CommonFactorKeeps
 unfolding scaled Holds
-common-factor-keeps x a g n ρ = (
-  λ p.
-      let d : Divides D (p .0) = subst (Divides D) (value-setting x (p .0) ρ g) (p .1 .1) in
-      (d .quotient, body (d .quotient) .0 (subst (λ y. Holds (map-literals (scale-literal D x) a) (with x y ρ)) (d .exact) (p .1 .0))),
-  λ p. (pos D *ℤ p .0, (body (p .0) .1 (p .1), subst (Divides D) (sym (value-setting x (pos D *ℤ p .0) ρ g)) (divides-times D (p .0)))),
-)
+common-factor-keeps x a g n ρ = (divided, multiplied)
   where
     D : ℕ
     D = common-factor x a
 
-    body : (z : ℤ) → Holds (map-literals (scale-literal D x) a) (with x (pos D *ℤ z) ρ) ↔ Holds a (with x z ρ)
-    body z = map-keeps (scale-literal D x) (with x (pos D *ℤ z) ρ) (with x z ρ) a
-        (normal-imp (λ t s. NoZero t s × SizeDivides D x t s) (λ t s. Holds (scale-literal D x t s) (with x (pos D *ℤ z) ρ) ↔ Passes t (value s (with x z ρ)))
-        (λ t s h. literal-keeps D x z ρ g t s (common-factor-pos x a n) h) a (normal-both NoZero (SizeDivides D x) a n (sizes-divide x a n)))
+    Body : ℤ → Type 0
+    Body y = Holds (map-literals (scale-literal D x) a) (with x y ρ)
+
+    body : (z : ℤ) → Body (pos D *ℤ z) ↔ Holds a (with x z ρ)
+    body z = body-keeps D x z ρ g (common-factor-pos x a n) a (all-scalable x a n)
+
+    divided : Holds (Some x (scaled D x a)) ρ → Holds (Some x a) ρ
+    divided (y, (holds, is-multiple)) =
+        let d : Divides D y = subst (Divides D) (value-setting x y ρ g) is-multiple in
+        (d .quotient, body (d .quotient) .0 (subst Body (d .exact) holds))
+
+    multiplied : Holds (Some x a) ρ → Holds (Some x (scaled D x a)) ρ
+    multiplied (z, holds) =
+        let is-multiple = subst (Divides D) (sym (value-setting x (pos D *ℤ z) ρ g)) (divides-times D z) in
+        (pos D *ℤ z, (body z .1 holds, is-multiple))

@@ -12,10 +12,14 @@ use Rattle.whole.specs.Integers.{eqZ}
 use Rattle.whole.proofs.Tests.{T-and, eqZ→eq}
 use Rattle.whole.proofs.Difference.{z2, zz}
 use Rattle.rules.specs.Sum.{Sum, limit, all-within}
-use Rattle.rules.specs.Rule.{Junction, and, or, Quantifier, for-some, for-all, Test, positive, divisible, is-zero, Rule}
+use Rattle.rules.specs.Rule.{Junction, and, or, Quantifier, for-some, for-all, Test, positive, divisible, is-zero}
+use Rattle.rules.specs.Rule.{Rule}
 use Rattle.rules.specs.Result.{refused, given}
-use Rattle.rules.specs.Table.{Node, constant-node, join-node, not-node, literal-node, bind-node, most-words, body, width, count, nodes, bodies, starts, table, encode, size, is-setting, is-divisor}
-use Rattle.rules.specs.Decode.{Field, cut, checked, sum-field, right-child, sum-of, divisor-and-sum, setting-of, kinds, node, read, before, trees, only-tree, decode}
+use Rattle.rules.specs.Table.{Node, constant-node, join-node, not-node, literal-node, bind-node}
+use Rattle.rules.specs.Table.{most-words, body, width, count, nodes, bodies, starts}
+use Rattle.rules.specs.Table.{table, encode, size, is-setting, is-divisor}
+use Rattle.rules.specs.Decode.{Field, cut, checked, sum-field, right-child, sum-of, divisor-and-sum}
+use Rattle.rules.specs.Decode.{setting-of, kinds, node, read, before, trees, only-tree, decode}
 use Rattle.rules.specs.Laws.{DivisorOf, WellFormed, EncodeDecode}
 use Rattle.rules.proofs.Refusals.{parts, required, never, given-inj}
 use Rattle.rules.proofs.Sizes.{length-starts}

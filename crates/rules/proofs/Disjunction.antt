@@ -2,32 +2,38 @@
 -- Assumes nothing.
 use mathlib.Core.Path.{_≡_, refl, sym, _∙_, ap, subst}
 use mathlib.Core.Logic.{_↔_, _⊎_, inl, inr, Iff·rfl, Iff·trans, Iff·symm}
-use mathlib.Core.Bool.{Bool, true, false, not, cond}
-use mathlib.Core.List.{List, [], _∷_, _++_, map}
+use mathlib.Core.Bool.{Bool, cond}
+use mathlib.Core.List.{List, [], _∷_, _++_}
 use Prim.Native.Nat.{ℕ, zero, suc, _+_, _≤_, _<_}
 use native.Mathlib.Nat.{eq-or-lt-of-le}
 use native.Mathlib.Omega.{arith}
 use lib.Dec.{T}
 use lib.IntN.{ℤ, pos, negsuc, negℤ, natAbs, _+ℤ_, _-ℤ_, _*ℤ_, +ℤ-comm}
-use lib.Signed.{_<ℤ_, _≤ℤ_}
+use lib.Signed.{_<ℤ_}
 use Rattle.whole.specs.Integers.{eqZ}
 use Rattle.whole.specs.Divides.{Divides}
 use Rattle.whole.specs.Multiples.{lcms}
 use Rattle.whole.proofs.Tests.{T-and, cond-ind, eqZ→eq}
 use Rattle.whole.proofs.Lists.{All, Any, ⊎-iff, any-imp, any-found, any-append, any-map}
-use Rattle.whole.proofs.Difference.{zz, z1, z2, z3, z4}
+use Rattle.whole.proofs.Difference.{zz, z1, z2, z4}
 use Rattle.whole.proofs.Order.{≤ℤ-or->ℤ}
 use Rattle.whole.proofs.Divisibility.{divides-zero, divides-mul, divides-shift}
 use Rattle.whole.proofs.Multiples.{lcms-pos, lcms-divided}
 use Rattle.whole.proofs.Cooper.{UpTo, Reached, Cooper, crossed, cooper}
 use Rattle.rules.specs.Sum.{Sum, Choice, with, factor, add, scale, negate, put, number, same, value}
-use Rattle.rules.specs.Rule.{Junction, or, Test, positive, divisible, is-zero, Rule, Constant, Join, Not, Literal, Bind, True, False, Some, Passes, Holds}
+use Rattle.rules.specs.Rule.{Test, positive, divisible, is-zero}
+use Rattle.rules.specs.Rule.{Rule, Constant, Join, Not, Literal, Bind, True, False, Some, Passes, Holds}
 use Rattle.rules.specs.Literals.{gather, map-literals}
-use Rattle.rules.specs.Steps.{divisor-of, period, bound-of, without, once, bounds, far-literal, far-left, sum-at, body-at, for-each, disjuncts, any-of, disjunction}
-use Rattle.rules.specs.Laws.{Each, DivisorOf, Normal, UnitFactor, Periodic, CooperTheorem, DisjunctionKeeps}
+use Rattle.rules.specs.Steps.{divisor-of}
+use Rattle.rules.specs.Steps.{period}
+use Rattle.rules.specs.Steps.{bound-of, without, once, bounds, far-literal, far-left}
+use Rattle.rules.specs.Steps.{sum-at, body-at, for-each, disjuncts, any-of, disjunction}
+use Rattle.rules.specs.Laws.{DivisorOf, Normal, UnitFactor, Periodic, CooperTheorem, DisjunctionKeeps}
 use Rattle.rules.proofs.Sums.{rest, value-with, value-add, value-scale, value-negate, value-number}
 use Rattle.rules.proofs.Meaning.{joined-iff, whether-iff, at-equal}
-use Rattle.rules.proofs.OverLiterals.{normal-imp, normal-both, each-normal, map-keeps, map-same, map-normal, goes-over, gathered-all, all-gathered, Among, gathered-among}
+use Rattle.rules.proofs.Shapes.{far-normal, fars, nears}
+use Rattle.rules.proofs.OverLiterals.{normal-imp, normal-both, each-normal, map-keeps, map-same}
+use Rattle.rules.proofs.OverLiterals.{goes-over, gathered-all, all-gathered, Among, gathered-among}
 
 -- ---- the factor of x is 1, −1 or 0
 
@@ -39,24 +45,25 @@ unit-cases (negsuc zero) h = inr (inl refl)
 unit-cases (negsuc (suc n)) h = absurd (omega arith)
 
 module _ (x : ℕ) (s : Sum) where
+  -- what 0 < T becomes far to the left, by its x factor
+  abbrev far-by : ℤ → Rule
+  far-by f = cond (eqZ f (pos 1)) False (cond (eqZ f (negsuc 0)) True (Literal positive s))
+
   far-one : factor x s ≡ pos 1 → far-literal x positive s ≡ False
   unfolding far-literal
-  far-one e = ap (λ f. cond (eqZ f (pos 1)) False (cond (eqZ f (negsuc 0)) True (Literal positive s))) e
+  far-one e = ap far-by e
 
   far-minus-one : factor x s ≡ negsuc 0 → far-literal x positive s ≡ True
   unfolding far-literal
-  far-minus-one e = ap (λ f. cond (eqZ f (pos 1)) False (cond (eqZ f (negsuc 0)) True (Literal positive s))) e
+  far-minus-one e = ap far-by e
 
   far-none : factor x s ≡ pos 0 → far-literal x positive s ≡ Literal positive s
   unfolding far-literal
-  far-none e = ap (λ f. cond (eqZ f (pos 1)) False (cond (eqZ f (negsuc 0)) True (Literal positive s))) e
+  far-none e = ap far-by e
 
   bound-one : factor x s ≡ pos 1 → bound-of x positive s ≡ negate (put x (pos 0) s) ∷ []
   unfolding bound-of
   bound-one e = ap (λ f. cond (eqZ f (pos 1)) (negate (put x (pos 0) s) ∷ []) []) e
-
-at-rule : {a b : Rule} (ρ : Choice) → a ≡ b → Holds a ρ ↔ Holds b ρ
-at-rule ρ e = (subst (λ r. Holds r ρ) e, subst (λ r. Holds r ρ) (sym e))
 
 -- ---- each bound is there once, and none is lost
 
@@ -72,7 +79,8 @@ same→eq (a ∷ s) (b ∷ t) h =
 any-without : (b c : Sum) (l : List Sum) → Any (λ d. d ≡ c) l → (b ≡ c) ⊎ Any (λ d. d ≡ c) (without b l)
 unfolding Any without
 any-without b c [] h = absurd h
-any-without b c (d ∷ l) h = cond-ind (same b d) (without b l) (d ∷ without b l) (λ (m : List Sum). (b ≡ c) ⊎ Any (λ e. e ≡ c) m)
+any-without b c (d ∷ l) h = cond-ind (same b d) (without b l) (d ∷ without b l)
+    (λ (m : List Sum). (b ≡ c) ⊎ Any (λ e. e ≡ c) m)
     (λ t. elim h [ inl k ↦ inl (same→eq b d t ∙ k) | inr k ↦ any-without b c l k ])
     (λ t. elim h [ inl k ↦ inr (inl k) | inr k ↦ elim (any-without b c l k) [ inl e ↦ inl e | inr r ↦ inr (inr r) ] ])
 
@@ -82,11 +90,13 @@ any-once c [] h = h
 any-once c (b ∷ l) (inl k) = inl k
 any-once c (b ∷ l) (inr k) = any-without b c (once l) (any-once c l k)
 
-bounds-among : (x : ℕ) (R : Test → Sum → Type 0) (a : Rule) → Normal R a → Normal (Among (bound-of x) R (bounds x a)) a
+bounds-among : (x : ℕ) (R : Test → Sum → Type 0) (a : Rule) → Normal R a
+    → Normal (Among (bound-of x) R (bounds x a)) a
 unfolding bounds
 bounds-among x R a n =
-    normal-imp (Among (bound-of x) R (gather (bound-of x) a)) (Among (bound-of x) R (once (gather (bound-of x) a)))
-    (λ t s f y h. any-once y (gather (bound-of x) a) (f y h)) a (gathered-among (bound-of x) R a n)
+    let every : List Sum = gather (bound-of x) a in
+    normal-imp (Among (bound-of x) R every) (Among (bound-of x) R (once every))
+    (λ t s among y h. any-once y every (among y h)) a (gathered-among (bound-of x) R a n)
 
 -- ---- the body in x, at a choice of the other settings
 
@@ -117,7 +127,13 @@ module _ (x : ℕ) (ρ : Choice) (g : 1 ≤ x) where
 
   -- 1. periodic
 
-  divisor-periodic : (P : ℕ) (b : Bool) (k : ℕ) (s : Sum) → Periodic P x (divisible b k) s → (z : ℤ) → Passes (divisible b k) (value s (here z)) ↔ Passes (divisible b k) (value s (here (z +ℤ pos P)))
+  -- a says at z + P what it says at z
+  abbrev SameAfter : ℕ → ℤ → Rule → Type 0
+  SameAfter P z a = Holds a (here z) ↔ Holds a (here (z +ℤ pos P))
+
+  divisor-periodic : (P : ℕ) (b : Bool) (k : ℕ) (s : Sum) → Periodic P x (divisible b k) s
+      → (z : ℤ) → SameAfter P z (Literal (divisible b k) s)
+  unfolding Holds
   divisor-periodic P b k s p z = whether-iff b
       (Iff·trans (at-equal (Divides k) (value-with x s z ρ g))
       (Iff·trans (Iff·symm (divides-shift moved (factor x s *ℤ z +ℤ rest x s ρ)))
@@ -135,58 +151,70 @@ module _ (x : ℕ) (ρ : Choice) (g : 1 ≤ x) where
       law : (f z r P : ℤ) → (f *ℤ z +ℤ r) +ℤ f *ℤ P ≡ f *ℤ (z +ℤ P) +ℤ r
       law = z4 _ (simp zz (omega arith))
 
-  far-periodic : (P : ℕ) (z : ℤ) (t : Test) (s : Sum) → UnitFactor x t s × Periodic P x t s → Holds (far-literal x t s) (here z) ↔ Holds (far-literal x t s) (here (z +ℤ pos P))
+  abbrev UnitPeriodic : ℕ → Test → Sum → Type 0
+  UnitPeriodic P t s = UnitFactor x t s × Periodic P x t s
+
+  far-periodic : (P : ℕ) (z : ℤ) (t : Test) (s : Sum) → UnitPeriodic P t s → SameAfter P z (far-literal x t s)
   unfolding Holds far-literal
   far-periodic P z positive s h = elim (unit-cases (factor x s) (h .0)) [
-    | inl e ↦ constant False (far-one x s e) Iff·rfl
-    | inr (inl e) ↦ constant True (far-minus-one x s e) Iff·rfl
-    | inr (inr e) ↦ constant (Literal positive s) (far-none x s e) (at-equal (Passes positive) (value-none s z (z +ℤ pos P) e))
+    | inl e ↦ subst (SameAfter P z) (sym (far-one x s e)) Iff·rfl
+    | inr (inl e) ↦ subst (SameAfter P z) (sym (far-minus-one x s e)) Iff·rfl
+    | inr (inr e) ↦ subst (SameAfter P z) (sym (far-none x s e)) (at-equal (Passes positive) (value-none s z _ e))
   ]
-    where
-      constant : (r : Rule) → far-literal x positive s ≡ r → Holds r (here z) ↔ Holds r (here (z +ℤ pos P)) → Holds (far-literal x positive s) (here z) ↔ Holds (far-literal x positive s) (here (z +ℤ pos P))
-      constant r e k = Iff·trans (at-rule (here z) e) (Iff·trans k (at-rule (here (z +ℤ pos P)) (sym e)))
   far-periodic P z (divisible b k) s h = divisor-periodic P b k s (h .1) z
   far-periodic P z is-zero s h = absurd (h .0)
 
   -- 2. far below
 
-  Below : Rule → Rule → Type 0
-  Below a far = (n : ℕ) × ((z : ℤ) → z <ℤ negℤ (pos n) → Holds a (here z) ↔ Holds far (here z))
+  -- z lies below −n
+  abbrev Under : ℕ → ℤ → Type 0
+  Under n z = z <ℤ negℤ (pos n)
 
-  below-one : (r z : ℤ) → z <ℤ negℤ (pos (natAbs r)) → ¬ (pos 0 <ℤ (z +ℤ r))
+  -- below some number a says what far says
+  Below : Rule → Rule → Type 0
+  Below a far = (n : ℕ) × ((z : ℤ) → Under n z → Holds a (here z) ↔ Holds far (here z))
+
+  below-one : (r z : ℤ) → Under (natAbs r) z → ¬ (pos 0 <ℤ (z +ℤ r))
   below-one (pos n) = z1 _ (simp zz (omega arith))
   below-one (negsuc n) = z1 _ (simp zz (omega arith))
 
-  below-minus-one : (r z : ℤ) → z <ℤ negℤ (pos (natAbs r)) → pos 0 <ℤ (r -ℤ z)
+  below-minus-one : (r z : ℤ) → Under (natAbs r) z → pos 0 <ℤ (r -ℤ z)
   below-minus-one (pos n) = z1 _ (simp zz (omega arith))
   below-minus-one (negsuc n) = z1 _ (simp zz (omega arith))
 
   below-literal : (t : Test) (s : Sum) → UnitFactor x t s → Below (Literal t s) (far-literal x t s)
   unfolding Below Holds far-literal
   below-literal positive s h = elim (unit-cases (factor x s) h) [
-    | inl e ↦ (natAbs (rest x s ρ), λ z l. Iff·trans (none s z l e) (at-rule (here z) (sym (far-one x s e))))
-    | inr (inl e) ↦ (natAbs (rest x s ρ), λ z l. Iff·trans (all s z l e) (at-rule (here z) (sym (far-minus-one x s e))))
-    | inr (inr e) ↦ (0, λ z l. at-rule (here z) (sym (far-none x s e)))
+    | inl e ↦ subst (Below (Literal positive s)) (sym (far-one x s e)) (natAbs r, none e)
+    | inr (inl e) ↦ subst (Below (Literal positive s)) (sym (far-minus-one x s e)) (natAbs r, all e)
+    | inr (inr e) ↦ subst (Below (Literal positive s)) (sym (far-none x s e)) (0, λ z l. Iff·rfl)
   ]
     where
-      none : (s : Sum) (z : ℤ) → z <ℤ negℤ (pos (natAbs (rest x s ρ))) → factor x s ≡ pos 1 → Passes positive (value s (here z)) ↔ Holds False (here z)
-      none s z l e = (λ k. below-one (rest x s ρ) z l (subst (Passes positive) (value-one s z e) k), λ k. absurd k)
+      r : ℤ
+      r = rest x s ρ
 
-      all : (s : Sum) (z : ℤ) → z <ℤ negℤ (pos (natAbs (rest x s ρ))) → factor x s ≡ negsuc 0 → Passes positive (value s (here z)) ↔ Holds True (here z)
-      all s z l e = (λ k. tt, λ k. subst (Passes positive) (sym (value-minus-one s z e)) (below-minus-one (rest x s ρ) z l))
+      none : factor x s ≡ pos 1 → (z : ℤ) → Under (natAbs r) z
+          → Passes positive (value s (here z)) ↔ Holds False (here z)
+      none e z l = (λ k. below-one r z l (subst (Passes positive) (value-one s z e) k), λ k. absurd k)
+
+      all : factor x s ≡ negsuc 0 → (z : ℤ) → Under (natAbs r) z
+          → Passes positive (value s (here z)) ↔ Holds True (here z)
+      all e z l = (λ k. tt, λ k. subst (Passes positive) (sym (value-minus-one s z e)) (below-minus-one r z l))
   below-literal (divisible b k) s h = (0, λ z l. Iff·rfl)
   below-literal is-zero s h = absurd h
 
-  low-enough : (m n : ℕ) (z : ℤ) → z <ℤ negℤ (pos (m + n)) → (z <ℤ negℤ (pos m)) × (z <ℤ negℤ (pos n))
+  low-enough : (m n : ℕ) (z : ℤ) → Under (m + n) z → Under m z × Under n z
   low-enough m n = z1 _ (simp zz (omega arith))
 
   below : (a : Rule) → Normal (UnitFactor x) a → Below a (far-left x a)
   unfolding Normal Below far-left map-literals Holds
   below (Constant b) n = (0, λ z l. Iff·rfl)
   below (Join j a b) n =
-      let p = below a (n .0) in
-      let q = below b (n .1) in
-      (p .0 + q .0, λ z l. let k = low-enough (p .0) (q .0) z l in joined-iff j (p .1 z (k .0)) (q .1 z (k .1)))
+      let (low-a, same-a) = below a (n .0) in
+      let (low-b, same-b) = below b (n .1) in (
+        low-a + low-b,
+        λ z l. let (l-a, l-b) = low-enough low-a low-b z l in joined-iff j (same-a z l-a) (same-b z l-b),
+      )
   below (Not a) n = absurd n
   below (Literal t s) n = below-literal t s n
   below (Bind q v a) n = absurd n
@@ -197,19 +225,30 @@ module _ (x : ℕ) (ρ : Choice) (g : 1 ≤ x) where
     Bound : ℤ → Type 0
     Bound y = Any (λ c. y ≡ value c ρ) bs
 
-    abbrev Ready : Test → Sum → Type 0
-    Ready t s = UnitFactor x t s × (Periodic P x t s × Among (bound-of x) (UnitFactor x) bs t s)
+    -- the literal's bound is in the list
+    abbrev HasBound : Test → Sum → Type 0
+    HasBound t s = Among (bound-of x) (UnitFactor x) bs t s
 
-    bound-there : (s : Sum) → factor x s ≡ pos 1 → Among (bound-of x) (UnitFactor x) bs positive s → Bound (negℤ (rest x s ρ))
+    -- a bound was passed between z and z + P
+    abbrev Passed : ℤ → Type 0
+    Passed z = Reached Bound P (z +ℤ pos P)
+
+    abbrev Down : ℤ → Test → Sum → Type 0
+    Down z t s = Passes t (value s (here (z +ℤ pos P))) → Passed z ⊎ Passes t (value s (here z))
+
+    bound-there : (s : Sum) → factor x s ≡ pos 1 → HasBound positive s → Bound (negℤ (rest x s ρ))
     unfolding Bound rest Any
-    bound-there s e f = any-imp
+    bound-there s e has-bound = any-imp
         (λ c i. sym (ap (λ (d : Sum). value d ρ) i ∙ value-negate (put x (pos 0) s) ρ)) bs
-        (f (negate (put x (pos 0) s)) (subst (Any (λ c. c ≡ negate (put x (pos 0) s))) (sym (bound-one x s e)) (inl refl)))
+        (has-bound own (subst (Any (λ c. c ≡ own)) (sym (bound-one x s e)) (inl refl)))
+      where
+        own : Sum
+        own = negate (put x (pos 0) s)
 
-    down-one : (s : Sum) (z : ℤ) → factor x s ≡ pos 1 → Bound (negℤ (rest x s ρ)) → pos 0 <ℤ ((z +ℤ pos P) +ℤ rest x s ρ) → Reached Bound P (z +ℤ pos P) ⊎ (pos 0 <ℤ (z +ℤ rest x s ρ))
-    down-one s z e b h = elim (≤ℤ-or->ℤ z (negℤ (rest x s ρ))) [
-      | inl l ↦ inl (negℤ (rest x s ρ), b, crossed (negℤ (rest x s ρ)) z (above (rest x s ρ) (z +ℤ pos P) h) l)
-      | inr l ↦ inr (over (rest x s ρ) z l)
+    down-one : (r z : ℤ) → Bound (negℤ r) → pos 0 <ℤ ((z +ℤ pos P) +ℤ r) → Passed z ⊎ (pos 0 <ℤ (z +ℤ r))
+    down-one r z b h = elim (≤ℤ-or->ℤ z (negℤ r)) [
+      | inl l ↦ inl (negℤ r, b, crossed (negℤ r) z (above r (z +ℤ pos P) h) l)
+      | inr l ↦ inr (over r z l)
     ]
       where
         above : (r y : ℤ) → pos 0 <ℤ (y +ℤ r) → negℤ r <ℤ y
@@ -218,36 +257,44 @@ module _ (x : ℕ) (ρ : Choice) (g : 1 ≤ x) where
         over : (r z : ℤ) → negℤ r <ℤ z → pos 0 <ℤ (z +ℤ r)
         over = z2 _ (simp zz (omega arith))
 
-    down-literal : (z : ℤ) (t : Test) (s : Sum) → Ready t s → Passes t (value s (here (z +ℤ pos P))) → Reached Bound P (z +ℤ pos P) ⊎ Passes t (value s (here z))
-    down-literal z positive s r h = elim (unit-cases (factor x s) (r .0)) [
-      | inl e ↦ ⊎-iff Iff·rfl (at-equal (Passes positive) (sym (value-one s z e))) .0 (down-one s z e (bound-there s e (r .1 .1)) (subst (Passes positive) (value-one s (z +ℤ pos P) e) h))
-      | inr (inl e) ↦ inr (subst (Passes positive) (sym (value-minus-one s z e)) (lower (rest x s ρ) z (subst (Passes positive) (value-minus-one s (z +ℤ pos P) e) h)))
+    down-literal : (z : ℤ) (t : Test) (s : Sum) → UnitPeriodic P t s × HasBound t s → Down z t s
+    unfolding Holds
+    down-literal z positive s ((unit, periodic), has-bound) h = elim (unit-cases (factor x s) unit) [
+      | inl e ↦ one e
+      | inr (inl e) ↦ inr (minus-one e)
       | inr (inr e) ↦ inr (subst (Passes positive) (value-none s (z +ℤ pos P) z e) h)
     ]
       where
         lower : (r z : ℤ) → pos 0 <ℤ (r -ℤ (z +ℤ pos P)) → pos 0 <ℤ (r -ℤ z)
         lower = z2 _ (simp zz (omega arith))
-    down-literal z (divisible b k) s r h = inr (divisor-periodic P b k s (r .1 .0) z .1 h)
-    down-literal z is-zero s r h = absurd (r .0)
+
+        one : factor x s ≡ pos 1 → Passed z ⊎ Passes positive (value s (here z))
+        one e =
+            let up = subst (Passes positive) (value-one s (z +ℤ pos P) e) h in
+            let down = down-one (rest x s ρ) z (bound-there s e has-bound) up in
+            subst (λ y. Passed z ⊎ Passes positive y) (sym (value-one s z e)) down
+
+        minus-one : factor x s ≡ negsuc 0 → Passes positive (value s (here z))
+        minus-one e =
+            let up = subst (Passes positive) (value-minus-one s (z +ℤ pos P) e) h in
+            subst (Passes positive) (sym (value-minus-one s z e)) (lower (rest x s ρ) z up)
+    down-literal z (divisible b k) s ((unit, periodic), has-bound) h = inr (divisor-periodic P b k s periodic z .1 h)
+    down-literal z is-zero s ((unit, periodic), has-bound) h = absurd unit
 
     -- the three together
-    module _ (a : Rule) (u : Normal (UnitFactor x) a) (d : Normal (Periodic P x) a) (m : Normal (Among (bound-of x) (UnitFactor x) bs) a) where
-      periodic : (z : ℤ) → Holds (far-left x a) (here z) ↔ Holds (far-left x a) (here (z +ℤ pos P))
+    module _ (a : Rule) (u : Normal (UnitFactor x) a) (d : Normal (Periodic P x) a) (m : Normal HasBound a) where
+      unit-periodic : Normal (UnitPeriodic P) a
+      unit-periodic = normal-both (UnitFactor x) (Periodic P x) a u d
+
+      periodic : (z : ℤ) → SameAfter P z (far-left x a)
       unfolding far-left
       periodic z = map-same (far-literal x) (here z) (here (z +ℤ pos P)) a
-          (normal-imp (λ t s. UnitFactor x t s × Periodic P x t s) (λ t s. Holds (far-literal x t s) (here z) ↔ Holds (far-literal x t s) (here (z +ℤ pos P)))
-          (far-periodic P z) a (normal-both (UnitFactor x) (Periodic P x) a u d))
+          (normal-imp (UnitPeriodic P) (λ t s. SameAfter P z (far-literal x t s)) (far-periodic P z) a unit-periodic)
 
-      one-period-down : (z : ℤ) → Holds a (here (z +ℤ pos P)) → Reached Bound P (z +ℤ pos P) ⊎ Holds a (here z)
-      one-period-down z = goes-over (Reached Bound P (z +ℤ pos P)) (here (z +ℤ pos P)) (here z) a
-          (normal-imp Ready (λ t s. Passes t (value s (here (z +ℤ pos P))) → Reached Bound P (z +ℤ pos P) ⊎ Passes t (value s (here z)))
-          (down-literal z) a ready)
-        where
-          others : Test → Sum → Type 0
-          others t s = Periodic P x t s × Among (bound-of x) (UnitFactor x) bs t s
-
-          ready : Normal Ready a
-          ready = normal-both (UnitFactor x) others a u (normal-both (Periodic P x) (Among (bound-of x) (UnitFactor x) bs) a d m)
+      one-period-down : (z : ℤ) → Holds a (here (z +ℤ pos P)) → Passed z ⊎ Holds a (here z)
+      one-period-down z = goes-over (Passed z) (here (z +ℤ pos P)) (here z) a
+          (normal-imp (λ t s. UnitPeriodic P t s × HasBound t s) (Down z) (down-literal z) a
+          (normal-both (UnitPeriodic P) HasBound a unit-periodic m))
 
       body-cooper : 0 < P → Cooper (λ z. Holds a (here z)) (λ z. Holds (far-left x a) (here z)) Bound P
       unfolding Below
@@ -269,31 +316,27 @@ module _ (x : ℕ) (ρ : Choice) (g : 1 ≤ x) where
       ∙ +ℤ-comm (value (put x (pos 0) s) ρ) (factor x s *ℤ value u ρ)
       ∙ sym (value-with x s (value u ρ) ρ g)
 
-  body-at-keeps : (R : Test → Sum → Type 0) (u : Sum) (a : Rule) → Normal R a → Holds (body-at x u a) ρ ↔ Holds a (here (value u ρ))
+  body-at-keeps : (R : Test → Sum → Type 0) (u : Sum) (a : Rule) → Normal R a
+      → Holds (body-at x u a) ρ ↔ Holds a (here (value u ρ))
   unfolding body-at
   body-at-keeps R u a n = map-keeps (λ t s. Literal t (sum-at x u s)) ρ (here (value u ρ)) a
       (normal-imp R (λ t s. Holds (Literal t (sum-at x u s)) ρ ↔ Passes t (value s (here (value u ρ))))
       (λ t s r. unfold Holds in at-equal (Passes t) (value-at u s)) a n)
 
-  far-at : (a : Rule) → Normal (UnitFactor x) a → (j : ℕ) → Holds (body-at x (number (pos j)) (far-left x a)) ρ ↔ Holds (far-left x a) (here (pos j))
+  far-at : (a : Rule) → Normal (UnitFactor x) a → (j : ℕ)
+      → Holds (body-at x (number (pos j)) (far-left x a)) ρ ↔ Holds (far-left x a) (here (pos j))
   far-at a n j = Iff·trans
-      (body-at-keeps (λ t s. Unit {0}) (number (pos j)) (far-left x a) (far-normal a n))
+      (body-at-keeps (UnitFactor x) (number (pos j)) (far-left x a) (far-normal x (UnitFactor x) a n))
       (at-equal (λ z. Holds (far-left x a) (here z)) (value-number (pos j) ρ))
-    where
-      literal : (t : Test) (s : Sum) → UnitFactor x t s → Normal (λ t s. Unit {0}) (far-literal x t s)
-      literal positive s h = unfold far-literal Normal in
-          cond-ind (eqZ (factor x s) (pos 1)) False (cond (eqZ (factor x s) (negsuc 0)) True (Literal positive s)) (Normal (λ t s. Unit {0})) (λ c. tt)
-          (λ c. cond-ind (eqZ (factor x s) (negsuc 0)) True (Literal positive s) (Normal (λ t s. Unit {0})) (λ i. tt) (λ i. tt))
-      literal (divisible b k) s h = unfold far-literal Normal in tt
-      literal is-zero s h = absurd h
 
-      far-normal : (a : Rule) → Normal (UnitFactor x) a → Normal (λ t s. Unit {0}) (far-left x a)
-      far-normal a n = unfold far-left in map-normal (far-literal x) (UnitFactor x) (λ t s. Unit {0}) literal a n
-
-  near-at : (a : Rule) → Normal (UnitFactor x) a → (b : Sum) (j : ℕ) → Holds (body-at x (add b (number (pos j))) a) ρ ↔ Holds a (here (value b ρ +ℤ pos j))
+  near-at : (a : Rule) → Normal (UnitFactor x) a → (b : Sum) (j : ℕ)
+      → Holds (body-at x (add b (number (pos j))) a) ρ ↔ Holds a (here (value b ρ +ℤ pos j))
   near-at a n b j = Iff·trans
       (body-at-keeps (UnitFactor x) (add b (number (pos j))) a n)
-      (at-equal (λ z. Holds a (here z)) (value-add b (number (pos j)) ρ ∙ ap (λ z. value b ρ +ℤ z) (value-number (pos j) ρ)))
+      (at-equal (λ z. Holds a (here z)) value-above)
+    where
+      value-above : value (add b (number (pos j))) ρ ≡ value b ρ +ℤ pos j
+      value-above = value-add b (number (pos j)) ρ ∙ ap (λ z. value b ρ +ℤ z) (value-number (pos j) ρ)
 
 -- ---- some of what is joined by or
 
@@ -319,14 +362,18 @@ from-suc from n Q = (to, fro)
       | inr l ↦ inr (r .0, l, omega (arith, r .2), r .3)
     ]
 
-any-for-each : {A : Type 0} (Q : A → Type 0) (from n : ℕ) (f : ℕ → List A) → Any Q (for-each from n f) ↔ From from n (λ j. Any Q (f j))
+any-for-each : {A : Type 0} (Q : A → Type 0) (from n : ℕ) (f : ℕ → List A)
+    → Any Q (for-each from n f) ↔ From from n (λ j. Any Q (f j))
 unfolding for-each Any
 any-for-each Q from zero f = (λ h. absurd h, λ h. absurd (omega (arith, h .1, h .2)))
 any-for-each Q from (suc n) f = Iff·trans (any-append Q (f from) (for-each (suc from) n f))
     (Iff·trans (⊎-iff Iff·rfl (any-for-each Q (suc from) n f)) (from-suc from n (λ j. Any Q (f j))))
 
 up-to : (P : ℕ) (Q R : ℕ → Type 0) → ((j : ℕ) → Q j ↔ R j) → From 1 P Q ↔ UpTo P R
-up-to P Q R h = (λ r. (r .0, r .1, omega (arith, r .2), h (r .0) .0 (r .3)), λ r. (r .0, r .1, omega (arith, r .2), h (r .0) .1 (r .3)))
+up-to P Q R h = (
+  λ r. (r .0, r .1, omega (arith, r .2), h (r .0) .0 (r .3)),
+  λ r. (r .0, r .1, omega (arith, r .2), h (r .0) .1 (r .3)),
+)
 
 -- ---- the theorem
 
@@ -334,47 +381,49 @@ module _ (P x : ℕ) (a : Rule) (g : 1 ≤ x) (n : Normal (UnitFactor x) a) (ρ 
   abbrev bs : List Sum
   bs = bounds x a
 
-  abbrev Far : Type 0
-  Far = UpTo P (λ j. Holds (far-left x a) (with x (pos j) ρ))
+  abbrev FarAt : ℕ → Type 0
+  FarAt j = Holds (far-left x a) (with x (pos j) ρ)
+
+  abbrev NearAt : ℤ → ℕ → Type 0
+  NearAt b j = Holds a (with x (b +ℤ pos j) ρ)
 
   abbrev Near : Type 0
-  Near = (b : ℤ) × Bound x ρ g P bs b × UpTo P (λ j. Holds a (with x (b +ℤ pos j) ρ))
+  Near = (b : ℤ) × Bound x ρ g P bs b × UpTo P (NearAt b)
 
-  fars : ℕ → List Rule
-  fars j = body-at x (number (pos j)) (far-left x a) ∷ []
+  abbrev Held : Rule → Type 0
+  Held d = Holds d ρ
 
-  nears : ℕ → List Rule
-  nears j = map (λ b. body-at x (add b (number (pos j))) a) bs
-
-  any-far : Any (λ d. Holds d ρ) (for-each 1 P fars) ↔ Far
-  any-far = Iff·trans (any-for-each (λ d. Holds d ρ) 1 P fars) (up-to P (λ j. Any (λ d. Holds d ρ) (fars j)) (λ j. Holds (far-left x a) (with x (pos j) ρ)) one)
+  any-far : Any Held (for-each 1 P (fars x a)) ↔ UpTo P FarAt
+  any-far = Iff·trans (any-for-each Held 1 P (fars x a)) (up-to P (λ j. Any Held (fars x a j)) FarAt one)
     where
-      one : (j : ℕ) → Any (λ d. Holds d ρ) (fars j) ↔ Holds (far-left x a) (with x (pos j) ρ)
-      one j = unfold Any fars in Iff·trans (λ h. elim h [ inl k ↦ k | inr k ↦ absurd k ], λ h. inl h) (far-at x ρ g a n j)
+      one : (j : ℕ) → Any Held (fars x a j) ↔ FarAt j
+      one j = unfold Any in
+          Iff·trans (λ h. elim h [ inl k ↦ k | inr k ↦ absurd k ], λ h. inl h) (far-at x ρ g a n j)
 
-  any-near : Any (λ d. Holds d ρ) (for-each 1 P nears) ↔ Near
-  any-near = Iff·trans (any-for-each (λ d. Holds d ρ) 1 P nears) (Iff·trans (up-to P (λ j. Any (λ d. Holds d ρ) (nears j)) (λ j. Any (At j) bs) each) (to, fro))
+  any-near : Any Held (for-each 1 P (nears x a)) ↔ Near
+  unfolding Bound
+  any-near = Iff·trans (any-for-each Held 1 P (nears x a))
+      (Iff·trans (up-to P (λ j. Any Held (nears x a j)) (λ j. Any (λ b. NearAt (value b ρ) j) bs) each) (to, fro))
     where
-      At : ℕ → Sum → Type 0
-      At j b = Holds a (with x (value b ρ +ℤ pos j) ρ)
-
-      each : (j : ℕ) → Any (λ d. Holds d ρ) (nears j) ↔ Any (At j) bs
-      each j = unfold nears in Iff·trans (any-map (λ d. Holds d ρ) (λ b. body-at x (add b (number (pos j))) a) bs)
+      each : (j : ℕ) → Any Held (nears x a j) ↔ Any (λ b. NearAt (value b ρ) j) bs
+      each j = Iff·trans (any-map Held (λ b. body-at x (add b (number (pos j))) a) bs)
           (any-imp (λ b. near-at x ρ g a n b j .0) bs, any-imp (λ b. near-at x ρ g a n b j .1) bs)
 
-      to : UpTo P (λ j. Any (At j) bs) → Near
-      to r =
-          let f = any-found (At (r .0)) bs (r .3) in
-          (value (f .0) ρ, unfold Bound in any-imp (λ c e. ap (λ (d : Sum). value d ρ) e) bs (f .1), (r .0, r .1, r .2, f .2))
+      to : UpTo P (λ j. Any (λ b. NearAt (value b ρ) j) bs) → Near
+      to (j, from, upto, some) =
+          let (b, there, near) = any-found (λ b. NearAt (value b ρ) j) bs some in
+          let bound = any-imp (λ c e. ap (λ (d : Sum). value d ρ) e) bs there in
+          (value b ρ, bound, (j, from, upto, near))
 
-      fro : Near → UpTo P (λ j. Any (At j) bs)
-      fro r = (r .2 .0, r .2 .1, r .2 .2, unfold Bound in any-imp (λ c e. subst (λ y. Holds a (with x (y +ℤ pos (r .2 .0)) ρ)) e (r .2 .3)) bs (r .1))
+      fro : Near → UpTo P (λ j. Any (λ b. NearAt (value b ρ) j) bs)
+      fro (b, bound, (j, from, upto, near)) =
+          (j, from, upto, any-imp (λ c e. subst (λ y. NearAt y j) e near) bs bound)
 
   disjunction-cooper : 0 < P → Normal (Periodic P x) a → Holds (disjunction P x a) ρ ↔ Holds (Some x a) ρ
-  unfolding disjunction disjuncts Holds fars nears
+  unfolding disjunction disjuncts Holds
   disjunction-cooper p d =
-      Iff·trans (any-of-holds (for-each 1 P fars ++ for-each 1 P nears) ρ)
-      (Iff·trans (any-append (λ d. Holds d ρ) (for-each 1 P fars) (for-each 1 P nears))
+      Iff·trans (any-of-holds (for-each 1 P (fars x a) ++ for-each 1 P (nears x a)) ρ)
+      (Iff·trans (any-append Held (for-each 1 P (fars x a)) (for-each 1 P (nears x a)))
       (Iff·trans (⊎-iff any-far any-near)
       (Iff·symm (cooper (body-cooper x ρ g P bs a n d (bounds-among x (UnitFactor x) a n) p)))))
 
@@ -383,13 +432,17 @@ cooper-theorem P x a g p u d ρ = disjunction-cooper P x a g u ρ p d
 
 -- ---- the period is such a P
 
-divisors-positive : (t : Test) (s : Sum) → DivisorOf (λ k. 0 < k) t → All (λ k. 0 < k) (divisor-of t s)
+abbrev PositiveDivisor : Test → Sum → Type 0
+PositiveDivisor t s = DivisorOf (λ k. 0 < k) t
+
+divisors-positive : (t : Test) (s : Sum) → PositiveDivisor t s → All (λ k. 0 < k) (divisor-of t s)
 unfolding All
 divisors-positive positive s h = tt
 divisors-positive (divisible b k) s h = (h, tt)
 divisors-positive is-zero s h = tt
 
-periodic-literal : (P x : ℕ) (t : Test) (s : Sum) → All (λ k. Divides k (pos P)) (divisor-of t s) → Periodic P x t s
+periodic-literal : (P x : ℕ) (t : Test) (s : Sum)
+    → All (λ k. Divides k (pos P)) (divisor-of t s) → Periodic P x t s
 unfolding All
 periodic-literal P x positive s h = tt
 periodic-literal P x (divisible b k) s h = inr (h .0)
@@ -397,11 +450,18 @@ periodic-literal P x is-zero s h = tt
 
 pub disjunction-keeps : DisjunctionKeeps
 unfolding period
-disjunction-keeps x a g u e =
-    let n : Normal (λ t s. DivisorOf (λ k. 0 < k) t) a = each-normal (UnitFactor x) (λ t s. DivisorOf (λ k. 0 < k) t) a u e in
-    let l : List ℕ = gather divisor-of a in
-    cooper-theorem (lcms l) x a g
-    (lcms-pos l (gathered-all divisor-of (λ t s. DivisorOf (λ k. 0 < k) t) (λ k. 0 < k) divisors-positive a n))
-    u
-    (normal-imp (λ t s. All (λ k. Divides k (pos (lcms l))) (divisor-of t s)) (Periodic (lcms l) x) (periodic-literal (lcms l) x) a
-    (all-gathered divisor-of (UnitFactor x) (λ k. Divides k (pos (lcms l))) a u (lcms-divided l)))
+disjunction-keeps x a g u e = cooper-theorem P x a g positive-P u periodic
+  where
+    divisors : List ℕ
+    divisors = gather divisor-of a
+
+    P : ℕ
+    P = lcms divisors
+
+    positive-P : 0 < P
+    positive-P = lcms-pos divisors (gathered-all divisor-of PositiveDivisor (λ k. 0 < k) divisors-positive a
+        (each-normal (UnitFactor x) PositiveDivisor a u e))
+
+    periodic : Normal (Periodic P x) a
+    periodic = normal-imp (λ t s. All (λ k. Divides k (pos P)) (divisor-of t s)) (Periodic P x) (periodic-literal P x) a
+        (all-gathered divisor-of (UnitFactor x) (λ k. Divides k (pos P)) a u (lcms-divided divisors))

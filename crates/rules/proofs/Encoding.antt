@@ -4,23 +4,37 @@ use mathlib.Core.Path.{_≡_, refl, ap, _∙_, subst}
 use mathlib.Core.Logic.{_↔_}
 use mathlib.Core.Bool.{Bool, true, false, _&&_}
 use mathlib.Core.List.{List, [], _∷_, _++_, append-assoc, append-nil}
-use Prim.Native.Nat.{ℕ, _+_, _≤_}
+use Prim.Native.Nat.{ℕ, _+_, _≤_, _<_}
 use native.Mathlib.Omega.{arith}
-use lib.Dec.{T, leb, le→leb, eqb, eqb-refl}
+use lib.Dec.{T, leb, leb→le, le→leb, eqb, eqb-refl}
 use lib.IntN.{ℤ, pos, _+ℤ_, _-ℤ_}
 use lib.ListN.{length}
 use Rattle.whole.proofs.Tests.{T-and}
 use Rattle.whole.proofs.Difference.{z2, zz}
 use Rattle.rules.specs.Sum.{limit, all-within}
-use Rattle.rules.specs.Rule.{and, or, for-some, for-all, Test, positive, divisible, is-zero, Rule, Constant, Join, Not, Literal, Bind}
+use Rattle.rules.specs.Rule.{and, or, for-some, for-all, Test, positive, divisible, is-zero}
+use Rattle.rules.specs.Rule.{Rule, Constant, Join, Not, Literal, Bind}
 use Rattle.rules.specs.Result.{given}
-use Rattle.rules.specs.Table.{Node, constant-node, join-node, not-node, literal-node, bind-node, most-words, body, width, count, nodes, bodies, starts, size, is-setting, is-divisor}
+use Rattle.rules.specs.Table.{Node, constant-node, join-node, not-node, literal-node, bind-node}
+use Rattle.rules.specs.Table.{most-words, body, width, count, nodes, bodies, starts, size, is-setting, is-divisor}
 use Rattle.rules.specs.Decode.{cut, checked, sum-of, divisor-and-sum, node, read, trees, decode}
 use Rattle.rules.specs.Laws.{Each, InTable, WellFormed, DecodeEncode}
 use Rattle.rules.proofs.Refusals.{then, passed}
 use Rattle.rules.proofs.Sizes.{count-pos, length-nodes, length-starts}
 
 -- ---- what the fields of a node must be
+
+pub setting-range : (v : ℕ) → T (is-setting (pos v)) → (1 ≤ v) × (v < 7)
+unfolding is-setting
+setting-range v t =
+    let (from, to) = T-and (leb 1 v) (leb v 6) .0 t in
+    (leb→le 1 v from, omega (arith, leb→le v 6 to))
+
+pub divisor-range : (k : ℕ) → T (is-divisor (pos k)) → (0 < k) × (k ≤ limit)
+unfolding is-divisor
+divisor-range k t =
+    let (from, to) = T-and (leb 1 k) (leb k limit) .0 t in
+    (leb→le 1 k from, leb→le k limit to)
 
 unfoldable pub Good : Node → Type 0
 Good (constant-node b) = Unit {0}

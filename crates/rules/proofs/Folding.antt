@@ -2,17 +2,19 @@
 -- Assumes nothing.
 use mathlib.Core.Path.{_≡_, refl, sym, _∙_, ap, ap₂, subst}
 use mathlib.Core.Logic.{_↔_, _⊎_, inl, inr, Iff·rfl, Iff·trans, Iff·not}
-use mathlib.Core.Bool.{Bool, true, false, not, _||_, cond}
-use Prim.Native.Nat.{ℕ, suc, _+_, _≤_}
+use mathlib.Core.Bool.{Bool, true, false, not, _||_}
+use Prim.Native.Nat.{ℕ, _+_, _≤_}
 use native.Mathlib.Omega.{arith}
-use lib.Dec.{T, eqb, eqb→eq}
+use lib.Dec.{T, T-not, eqb→eq}
 use lib.IntN.{ℤ}
 use Rattle.whole.specs.Divides.{Divides}
 use Rattle.whole.proofs.Tests.{T-or, T-no, cond-ind}
 use Rattle.whole.proofs.Divisibility.{one-divides}
 use Rattle.rules.specs.Sum.{Sum, Choice, with, factor, no-factors, value}
-use Rattle.rules.specs.Rule.{Junction, and, or, Quantifier, Test, positive, divisible, is-zero, Rule, Constant, Join, Not, Literal, Bind, Joined, Passes, Holds, passes}
-use Rattle.rules.specs.Fold.{divisor-one, fold-literal, fold-not, Side, decides, drops, stays, constant-side, side, fold-sides, fold-join, fold}
+use Rattle.rules.specs.Rule.{Junction, and, or, Quantifier, Test, positive, divisible, is-zero}
+use Rattle.rules.specs.Rule.{Rule, Constant, Join, Not, Literal, Bind, Joined, Passes, Holds, passes}
+use Rattle.rules.specs.Fold.{divisor-one, fold-literal, fold-not, Side, decides}
+use Rattle.rules.specs.Fold.{drops, stays, side, fold-sides, fold-join, fold}
 use Rattle.rules.specs.Chosen.{quantifiers}
 use Rattle.rules.specs.Laws.{QuantifierFree, FoldKeeps}
 use Rattle.rules.proofs.Sums.{value-no-factors}
@@ -23,16 +25,27 @@ use Rattle.rules.proofs.Meaning.{joined-iff, whether-iff, ranges-iff, a
 -- divisor 1 asks nothing of a value
 any-value : (t : Test) (y z : ℤ) → T (divisor-one t) → Passes t y ↔ Passes t z
 any-value positive y z h = absurd h
-any-value (divisible b k) y z h = whether-iff b ((λ d. one z, λ d. one y))
+any-value (divisible b k) y z h = whether-iff b (λ d. one z, λ d. one y)
   where
     one : (w : ℤ) → Divides k w
     one w = subst (λ (m : ℕ). Divides m w) (sym (eqb→eq k 1 h)) (one-divides w)
 any-value is-zero y z h = absurd h
 
+-- a literal is settled and becomes a truth value, or it stays
+abbrev pub settles : Test → Sum → Bool
+settles t s = no-factors s || divisor-one t
+
+fold-literal-ind : (Q : Rule → Type 0) (t : Test) (s : Sum)
+    → (T (settles t s) → Q (Constant (passes t (factor 0 s)))) → (T (not (settles t s)) → Q (Literal t s))
+    → Q (fold-literal t s)
+unfolding fold-literal
+fold-literal-ind Q t s = cond-ind (settles t s) (Constant (passes t (factor 0 s))) (Literal t s) Q
+
 literal-keeps : (t : Test) (s : Sum) (ρ : Choice) → Holds (fold-literal t s) ρ ↔ Passes t (value s ρ)
-unfolding fold-literal Holds
-literal-keeps t s ρ = cond-ind (no-factors s || divisor-one t) (Constant (passes t (factor 0 s))) (Literal t s) (λ r. Holds r ρ ↔ Passes t (value s ρ))
-    (λ h. Iff·trans (passes-decides t (factor 0 s)) (settled (T-or (no-factors s) (divisor-one t) .0 h))) (λ h. Iff·rfl)
+unfolding Holds
+literal-keeps t s ρ = fold-literal-ind (λ r. Holds r ρ ↔ Passes t (value s ρ)) t s
+    (λ h. Iff·trans (passes-decides t (factor 0 s)) (settled (T-or (no-factors s) (divisor-one t) .0 h)))
+    (λ h. Iff·rfl)
   where
     settled : T (no-factors s) ⊎ T (divisor-one t) → Passes t (factor 0 s) ↔ Passes t (value s ρ)
     settled (inl h) = at-equal (Passes t) (sym (value-no-factors s ρ h))
@@ -86,7 +99,9 @@ module _ (A B : Type 0) where
   right-drops and b = (λ a. (a, b), λ p. p .0)
   right-drops or n = (λ a. inl a, λ s. elim s [ inl a ↦ a | inr b ↦ absurd (n b) ])
 
-sides-keep : (v w : Side) (j : Junction) (a b : Rule) (ρ : Choice) → Tells v j (Holds a ρ) → Tells w j (Holds b ρ) → Holds (fold-sides v w j a b) ρ ↔ Joined j (Holds a ρ) (Holds b ρ)
+sides-keep : (v w : Side) (j : Junction) (a b : Rule) (ρ : Choice)
+    → Tells v j (Holds a ρ) → Tells w j (Holds b ρ)
+    → Holds (fold-sides v w j a b) ρ ↔ Joined j (Holds a ρ) (Holds b ρ)
 unfolding fold-sides Holds
 sides-keep decides w j a b ρ h k = left-decides (Holds a ρ) (Holds b ρ) j h
 sides-keep drops w j a b ρ h k = left-drops (Holds a ρ) (Holds b ρ) j h
@@ -97,8 +112,11 @@ sides-keep stays stays j a b ρ h k = Iff·rfl
 pub fold-keeps : FoldKeeps
 unfolding fold fold-join Holds
 fold-keeps (Constant b) ρ = Iff·rfl
-fold-keeps (Join j a b) ρ = Iff·trans
-    (sides-keep (side j (fold a)) (side j (fold b)) j (fold a) (fold b) ρ (side-tells j (fold a) ρ) (side-tells j (fold b) ρ))
+fold-keeps (Join j a b) ρ =
+    let f : Rule = fold a in
+    let g : Rule = fold b in
+    Iff·trans
+    (sides-keep (side j f) (side j g) j f g ρ (side-tells j f ρ) (side-tells j g ρ))
     (joined-iff j (fold-keeps a ρ) (fold-keeps b ρ))
 fold-keeps (Not a) ρ = Iff·trans (not-keeps (fold a) ρ) (Iff·not (fold-keeps a ρ))
 fold-keeps (Literal t s) ρ = literal-keeps t s ρ
@@ -132,13 +150,14 @@ module _ (Q : Rule → Type 0) (by : ByParts Q) where
   keep-not (Bind q v a) h = h
 
   pub keep-fold : (a : Rule) → Q a → Q (fold a)
-  unfolding fold fold-join fold-literal
+  unfolding fold fold-join
   keep-fold (Constant b) h = h
   keep-fold (Join j a b) h =
-      keep-sides (side j (fold a)) (side j (fold b)) j (fold a) (fold b) (keep-fold a (by .left j a b h)) (keep-fold b (by .right j a b h))
+      let left : Q (fold a) = keep-fold a (by .left j a b h) in
+      let right : Q (fold b) = keep-fold b (by .right j a b h) in
+      keep-sides (side j (fold a)) (side j (fold b)) j (fold a) (fold b) left right
   keep-fold (Not a) h = keep-not (fold a) (by .under-not a (fold a) (keep-fold a) h)
-  keep-fold (Literal t s) h = cond-ind (no-factors s || divisor-one t) (Constant (passes t (factor 0 s))) (Literal t s) Q
-      (λ c. by .constant (passes t (factor 0 s))) (λ c. h)
+  keep-fold (Literal t s) h = fold-literal-ind Q t s (λ c. by .constant (passes t (factor 0 s))) (λ c. h)
   keep-fold (Bind q v a) h = by .under-bind q v a (fold a) (keep-fold a) h
 
 pub free-by-parts : ByParts QuantifierFree
@@ -154,7 +173,8 @@ free-by-parts = record {
 
 -- ---- folding makes no quantifier
 
-fewer-sides : (v w : Side) (j : Junction) (a b : Rule) → quantifiers (fold-sides v w j a b) ≤ quantifiers a + quantifiers b
+fewer-sides : (v w : Side) (j : Junction) (a b : Rule)
+    → quantifiers (fold-sides v w j a b) ≤ quantifiers a + quantifiers b
 unfolding fold-sides quantifiers
 fewer-sides decides w j a b = omega arith
 fewer-sides drops w j a b = omega arith
@@ -171,12 +191,13 @@ fewer-not (Literal t s) = omega arith
 fewer-not (Bind q v a) = omega arith
 
 pub fewer-fold : (a : Rule) → quantifiers (fold a) ≤ quantifiers a
-unfolding fold fold-join fold-literal quantifiers
+unfolding fold fold-join quantifiers
 fewer-fold (Constant b) = omega arith
-fewer-fold (Join j a b) = omega (arith, fewer-sides (side j (fold a)) (side j (fold b)) j (fold a) (fold b), fewer-fold a, fewer-fold b)
+fewer-fold (Join j a b) =
+    let joined = fewer-sides (side j (fold a)) (side j (fold b)) j (fold a) (fold b) in
+    omega (arith, joined, fewer-fold a, fewer-fold b)
 fewer-fold (Not a) = omega (arith, fewer-not (fold a), fewer-fold a)
-fewer-fold (Literal t s) = cond-ind (no-factors s || divisor-one t) (Constant (passes t (factor 0 s))) (Literal t s) (λ r. quantifiers r ≤ 0)
-    (λ c. omega arith) (λ c. omega arith)
+fewer-fold (Literal t s) = fold-literal-ind (λ r. quantifiers r ≤ 0) t s (λ c. omega arith) (λ c. omega arith)
 fewer-fold (Bind q v a) = omega (arith, fewer-fold a)
 
 -- ---- a folded rule
@@ -193,7 +214,7 @@ unfoldable pub Folded : Rule → Type 0
 Folded (Constant b) = Unit {0}
 Folded (Join j a b) = Open a × Open b × Folded a × Folded b
 Folded (Not a) = Open a × Folded a
-Folded (Literal t s) = T (not (no-factors s || divisor-one t))
+Folded (Literal t s) = T (not (settles t s))
 Folded (Bind q v a) = Folded a
 
 open-stays : (j : Junction) (a : Rule) → Open a → side j a ≡ stays
@@ -220,7 +241,8 @@ stays-open j (Not a) h = tt
 stays-open j (Literal t s) h = tt
 stays-open j (Bind q v a) h = tt
 
-folded-sides : (v w : Side) (j : Junction) (a b : Rule) → (Stays v → Open a) → (Stays w → Open b) → Folded a → Folded b → Folded (fold-sides v w j a b)
+folded-sides : (v w : Side) (j : Junction) (a b : Rule) → (Stays v → Open a) → (Stays w → Open b)
+    → Folded a → Folded b → Folded (fold-sides v w j a b)
 unfolding fold-sides Folded Stays
 folded-sides decides w j a b f g h k = h
 folded-sides drops w j a b f g h k = k
@@ -237,12 +259,12 @@ folded-not (Literal t s) h = (tt, h)
 folded-not (Bind q v a) h = (tt, h)
 
 pub folded-fold : (a : Rule) → Folded (fold a)
-unfolding fold fold-join fold-literal Folded
+unfolding fold fold-join Folded
 folded-fold (Constant b) = tt
 folded-fold (Join j a b) = folded-sides (side j (fold a)) (side j (fold b)) j (fold a) (fold b)
     (stays-open j (fold a)) (stays-open j (fold b)) (folded-fold a) (folded-fold b)
 folded-fold (Not a) = folded-not (fold a) (folded-fold a)
-folded-fold (Literal t s) = cond-ind (no-factors s || divisor-one t) (Constant (passes t (factor 0 s))) (Literal t s) Folded (λ c. tt) (λ c. c)
+folded-fold (Literal t s) = fold-literal-ind Folded t s (λ c. tt) (λ c. c)
 folded-fold (Bind q v a) = folded-fold a
 
 -- open sides and an open child stay where they are
@@ -258,14 +280,12 @@ not-open (Not a) h = refl
 not-open (Literal t s) h = refl
 not-open (Bind q v a) h = refl
 
-cond-no : {A : Type 0} (c : Bool) (x y : A) → T (not c) → cond c x y ≡ y
-cond-no true x y t = absurd t
-cond-no false x y t = refl
-
 pub fold-folded : (a : Rule) → Folded a → fold a ≡ a
-unfolding fold fold-literal Folded
+unfolding fold Folded
 fold-folded (Constant b) h = refl
-fold-folded (Join j a b) h = ap₂ (fold-join j) (fold-folded a (h .2)) (fold-folded b (h .3)) ∙ join-open j a b (h .0) (h .1)
+fold-folded (Join j a b) h =
+    ap₂ (fold-join j) (fold-folded a (h .2)) (fold-folded b (h .3)) ∙ join-open j a b (h .0) (h .1)
 fold-folded (Not a) h = ap fold-not (fold-folded a (h .1)) ∙ not-open a (h .0)
-fold-folded (Literal t s) h = cond-no (no-factors s || divisor-one t) (Constant (passes t (factor 0 s))) (Literal t s) h
+fold-folded (Literal t s) h = fold-literal-ind (λ r. r ≡ Literal t s) t s
+    (λ c. absurd (T-not (settles t s) h c)) (λ c. refl)
 fold-folded (Bind q v a) h = ap (Bind q v) (fold-folded a h)

@@ -1,25 +1,25 @@
 -- What the steps leave names only settings that were free.
 -- Assumes nothing.
-use mathlib.Core.Path.{_≡_, refl, sym, _∙_, ap, subst}
+use mathlib.Core.Path.{_≡_, _∙_, ap, subst}
 use mathlib.Core.Logic.{_⊎_, inl, inr}
-use mathlib.Core.Bool.{Bool, true, false, not, _&&_, _||_}
-use mathlib.Core.List.{List, [], _∷_}
-use Prim.Native.Nat.{ℕ, zero, suc, _≤_}
+use mathlib.Core.Bool.{Bool, true, false, not, _&&_}
+use Prim.Native.Nat.{ℕ, _≤_}
 use native.Mathlib.Decide.{ℕ-discrete}
-use native.Mathlib.Omega.{arith}
-use lib.Dec.{T, eqb, eqb→eq}
+use lib.Dec.{T, T-not, eqb, eqb→eq}
 use lib.IntN.{ℤ, pos, negsuc, _+ℤ_, _*ℤ_, *ℤ-zero}
 use Rattle.whole.specs.Integers.{eqZ}
-use Rattle.whole.proofs.Tests.{eqZ→eq, eq→eqZ}
+use Rattle.whole.proofs.Tests.{T-or, not-or, not-not, eqZ→eq, eq→eqZ}
 use Rattle.rules.specs.Sum.{Sum, factor, has, add, scale, negate, put, number, setting, one-plus, one-minus}
-use Rattle.rules.specs.Rule.{Quantifier, Test, positive, divisible, is-zero, Rule, Constant, Join, Not, Literal, Bind, Some}
+use Rattle.rules.specs.Rule.{Test, positive, divisible, is-zero, Rule, Constant, Join, Not, Literal, Bind, Some}
 use Rattle.rules.specs.Literals.{some-literal, map-literals}
-use Rattle.rules.specs.Steps.{x-not-negative, normal-literal, normal, multiplier, times, sign, scale-literal, scaled, sum-at, disjunction}
+use Rattle.rules.specs.Steps.{normal-literal, normal}
+use Rattle.rules.specs.Steps.{multiplier, sign, scale-literal, scaled, sum-at, disjunction}
 use Rattle.rules.specs.Answer.{occurs}
 use Rattle.rules.specs.Laws.{QuantifierFree, Normal, NoZero, free}
 use Rattle.rules.proofs.Sums.{factor-put, factor-put-other, factor-scale, factor-add, number-factor}
 use Rattle.rules.proofs.Folding.{ByParts}
 use Rattle.rules.proofs.Meaning.{join-free, not-free, bind-free}
+use Rattle.rules.proofs.NormalForm.{x-not-negative-ind}
 use Rattle.rules.proofs.OverLiterals.{map-normal}
 use Rattle.rules.proofs.Shapes.{Substitutes, disjunction-normal}
 
@@ -77,7 +77,12 @@ normal-not-free v (Not a) h = absurd h
 normal-not-free v (Literal t s) h = h
 normal-not-free v (Bind q w a) h = absurd h
 
-not-free-normal : (v x : ℕ) (Q : Test → Sum → Type 0) (a : Rule) → Normal Q a → (v ≡ x) ⊎ NotFree v a → Normal (λ t s. (v ≡ x) ⊎ Off v s) a
+-- under for some x: v is x, or off in every literal
+abbrev OffUnder : ℕ → ℕ → Test → Sum → Type 0
+OffUnder v x t s = (v ≡ x) ⊎ Off v s
+
+not-free-normal : (v x : ℕ) (Q : Test → Sum → Type 0) (a : Rule) → Normal Q a → (v ≡ x) ⊎ NotFree v a
+    → Normal (OffUnder v x) a
 unfolding Normal NotFree
 not-free-normal v x Q (Constant b) n h = tt
 not-free-normal v x Q (Join j a b) n h = (
@@ -94,17 +99,14 @@ module _ (v : ℕ) (g : 1 ≤ v) where
   literal-frees : (plainly : Bool) (x : ℕ) (t : Test) (s : Sum) → Off v s → NotFree v (normal-literal plainly x t s)
   unfolding normal-literal NotFree one-plus one-minus
   literal-frees true x positive s e = e
-  literal-frees false x positive s e = off-add v (number (pos 1)) (negate s) (number-factor v (pos 1) g) (off-negate v s e)
+  literal-frees false x positive s e =
+      off-add v (number (pos 1)) (negate s) (number-factor v (pos 1) g) (off-negate v s e)
   literal-frees true x is-zero s e = (
     off-add v (number (pos 1)) (negate s) (number-factor v (pos 1) g) (off-negate v s e),
     off-add v (number (pos 1)) s (number-factor v (pos 1) g) e,
   )
   literal-frees false x is-zero s e = (off-negate v s e, e)
-  literal-frees plainly x (divisible b k) s e = go (factor x s)
-    where
-      go : (f : ℤ) → Off v (elim f [ pos a ↦ s | negsuc a ↦ negate s ])
-      go (pos a) = e
-      go (negsuc a) = off-negate v s e
+  literal-frees plainly x (divisible b k) s e = x-not-negative-ind (Off v) x s e (off-negate v s e)
 
   normal-frees : (plainly : Bool) (x : ℕ) (a : Rule) → NotFree v a → NotFree v (normal plainly x a)
   unfolding normal NotFree
@@ -123,16 +125,22 @@ module _ (v : ℕ) (g : 1 ≤ v) where
   scaled-frees : (D x : ℕ) (a : Rule) → ¬ (v ≡ x) → Normal NoZero a → NotFree v a → NotFree v (scaled D x a)
   unfolding scaled NotFree setting
   scaled-frees D x a n z h = (
-    normal-not-free v (map-literals (scale-literal D x) a) (map-normal (scale-literal D x) (λ t s. (v ≡ x) ⊎ Off v s) (λ t s. Off v s) each a (not-free-normal v x NoZero a z (inr h))),
+    normal-not-free v (map-literals (scale-literal D x) a) literals,
     off-put v x (pos 1) (number (pos 0)) n (number-factor v (pos 0) g),
   )
     where
-      each : (t : Test) (s : Sum) → (v ≡ x) ⊎ Off v s → Normal (λ t s. Off v s) (scale-literal D x t s)
+      each : (t : Test) (s : Sum) → OffUnder v x t s → Normal (λ t s. Off v s) (scale-literal D x t s)
       each t s (inl e) = absurd (n e)
       each t s (inr e) = unfold scale-literal Normal in
-          off-put v x (sign (factor x s)) (scale (pos (multiplier D x s)) s) n (off-scale v (pos (multiplier D x s)) s e)
+          let m : ℤ = pos (multiplier D x s) in
+          off-put v x (sign (factor x s)) (scale m s) n (off-scale v m s e)
 
-  pub some-scaled-frees : (D x : ℕ) (a : Rule) → Normal NoZero a → NotFree v (Some x a) → NotFree v (Some x (scaled D x a))
+      literals : Normal (λ t s. Off v s) (map-literals (scale-literal D x) a)
+      literals = map-normal (scale-literal D x) (OffUnder v x) (λ t s. Off v s) each a
+          (not-free-normal v x NoZero a z (inr h))
+
+  pub some-scaled-frees : (D x : ℕ) (a : Rule) → Normal NoZero a
+      → NotFree v (Some x a) → NotFree v (Some x (scaled D x a))
   unfolding NotFree
   some-scaled-frees D x a z h = elim (ℕ-discrete v x) [
     | yes e ↦ inl e
@@ -141,32 +149,28 @@ module _ (v : ℕ) (g : 1 ≤ v) where
 
   -- ---- step 3
 
-  off-substitutes : (x : ℕ) → Substitutes x (λ t s. (v ≡ x) ⊎ Off v s) (Off v) (λ t s. Off v s)
+  off-substitutes : (x : ℕ) → Substitutes x (OffUnder v x) (Off v) (λ t s. Off v s)
   unfolding sum-at
   off-substitutes x = record {
     numeral = λ j. number-factor v (pos j) g;
     above = λ b j h. off-add v b (number (pos j)) h (number-factor v (pos j) g);
     bound = λ s h. off-negate v (put x (pos 0) s) (off-put-zero v x s h);
-    literal = λ t s u h b. off-add v (put x (pos 0) s) (scale (factor x s) u) (off-put-zero v x s h) (off-scale v (factor x s) u b);
+    literal = λ t s u h b.
+        off-add v (put x (pos 0) s) (scale (factor x s) u) (off-put-zero v x s h) (off-scale v (factor x s) u b);
   }
 
-  pub disjunction-frees : (Q : Test → Sum → Type 0) (P x : ℕ) (a : Rule) → Normal Q a → NotFree v (Some x a) → NotFree v (disjunction P x a)
+  pub disjunction-frees : (Q : Test → Sum → Type 0) (P x : ℕ) (a : Rule) → Normal Q a
+      → NotFree v (Some x a) → NotFree v (disjunction P x a)
   unfolding NotFree
-  disjunction-frees Q P x a n h = normal-not-free v (disjunction P x a)
-      (disjunction-normal x (λ t s. (v ≡ x) ⊎ Off v s) (Off v) (λ t s. Off v s) (off-substitutes x) P a (not-free-normal v x Q a n h))
+  disjunction-frees Q P x a n h =
+      let off : Normal (OffUnder v x) a = not-free-normal v x Q a n h in
+      normal-not-free v (disjunction P x a)
+      (disjunction-normal x (OffUnder v x) (Off v) (λ t s. Off v s) (off-substitutes x) P a off)
 
 -- ---- against the definition of free and of occurs
 
-not-or : (a b : Bool) → T (not (a || b)) → T (not a) × T (not b)
-not-or true b h = absurd h
-not-or false b h = (tt, h)
-
 off-by-test : (v : ℕ) (s : Sum) → T (not (has v s)) → Off v s
-off-by-test v s h = eqZ→eq (factor v s) (pos 0) (twice (eqZ (factor v s) (pos 0)) h)
-  where
-    twice : (b : Bool) → T (not (not b)) → T b
-    twice true h = tt
-    twice false h = h
+off-by-test v s h = eqZ→eq (factor v s) (pos 0) (not-not (eqZ (factor v s) (pos 0)) h)
 
 pub not-free-by-test : (v : ℕ) (a : Rule) → T (not (free v a)) → NotFree v a
 unfolding free NotFree
@@ -176,21 +180,22 @@ not-free-by-test v (Join j a b) h =
     (not-free-by-test v a (k .0), not-free-by-test v b (k .1))
 not-free-by-test v (Not a) h = not-free-by-test v a h
 not-free-by-test v (Literal t s) h = off-by-test v s h
-not-free-by-test v (Bind q w a) h = go (eqb v w) (eqb→eq v w) h (not-free-by-test v a)
+not-free-by-test v (Bind q w a) h = bound (eqb v w) (eqb→eq v w) h (not-free-by-test v a)
   where
-    go : (c : Bool) → (T c → v ≡ w) → T (not (not c && free v a)) → (T (not (free v a)) → NotFree v a) → (v ≡ w) ⊎ NotFree v a
-    go true e h f = inl (e tt)
-    go false e h f = inr (f h)
+    bound : (c : Bool) → (T c → v ≡ w) → T (not (not c && free v a)) → (T (not (free v a)) → NotFree v a)
+        → (v ≡ w) ⊎ NotFree v a
+    bound true e h inside = inl (e tt)
+    bound false e h inside = inr (inside h)
 
 pub occurs-not-free : (v : ℕ) (a : Rule) → QuantifierFree a → NotFree v a → ¬ T (occurs v a)
 unfolding NotFree occurs some-literal
 occurs-not-free v (Constant b) q h t = t
 occurs-not-free v (Join j a b) q h t =
     let f = join-free j a b q in
-    elim (Rattle.whole.proofs.Tests.T-or (some-literal (λ t s. has v s) a) (some-literal (λ t s. has v s) b) .0 t) [
+    elim (T-or (occurs v a) (occurs v b) .0 t) [
       | inl k ↦ occurs-not-free v a (f .0) (h .0) k
       | inr k ↦ occurs-not-free v b (f .1) (h .1) k
     ]
 occurs-not-free v (Not a) q h t = occurs-not-free v a (not-free a q) h t
-occurs-not-free v (Literal t s) q h k = lib.Dec.T-not (eqZ (factor v s) (pos 0)) k (eq→eqZ (factor v s) (pos 0) h)
+occurs-not-free v (Literal t s) q h k = T-not (eqZ (factor v s) (pos 0)) k (eq→eqZ (factor v s) (pos 0) h)
 occurs-not-free v (Bind p w a) q h t = bind-free p w a q

@@ -1,18 +1,21 @@
 -- The meaning of a rule, part by part; of a quantifier-free rule it is decided by the test `holds`.
 -- Assumes nothing.
-use mathlib.Core.Path.{_≡_, refl, sym, subst}
-use mathlib.Core.Logic.{_↔_, _⊎_, inl, inr, Iff·rfl, Iff·trans, Iff·not, Iff·and, Iff·symm}
+use mathlib.Core.Path.{subst}
+use mathlib.Core.Logic.{_↔_, Iff·rfl, Iff·trans, Iff·not, Iff·and}
 use mathlib.Core.Bool.{Bool, true, false, not}
-use Prim.Native.Nat.{ℕ, suc, _+_}
+use Prim.Native.Nat.{ℕ, _<_}
 use native.Mathlib.Omega.{arith}
-use lib.Dec.{T, nltb→le}
+use lib.Dec.{T, ltb→lt, nltb→le}
 use lib.IntN.{ℤ, pos}
-use Rattle.whole.specs.Divides.{Divides, divides}
+use Rattle.whole.specs.Divides.{divides}
 use Rattle.whole.proofs.Tests.{T-and, T-or, T-no, T-dec, eqZ→eq, eq→eqZ}
 use Rattle.whole.proofs.Lists.{⊎-iff}
+pub use Rattle.whole.proofs.Lists.{at-equal}
 use Rattle.whole.proofs.Divisibility.{divides-test}
-use Rattle.rules.specs.Sum.{Sum, Choice, with, value, all-within}
-use Rattle.rules.specs.Rule.{Junction, and, or, Quantifier, for-some, for-all, Test, positive, divisible, is-zero, Rule, Constant, Join, Not, Literal, Bind, Joined, Whether, Ranges, Passes, Holds, whether, passes}
+use Rattle.rules.specs.Sum.{Choice, with, value, all-within}
+use Rattle.rules.specs.Rule.{Junction, and, or, Quantifier, for-some, for-all, Test, positive, divisible, is-zero}
+use Rattle.rules.specs.Rule.{Rule, Constant, Join, Not, Literal, Bind, Joined}
+use Rattle.rules.specs.Rule.{Whether, Ranges, Passes, Holds, whether, passes}
 use Rattle.rules.specs.Chosen.{quantifiers, quantified}
 use Rattle.rules.specs.Match.{joined, holds, choice, most-value, matching}
 use Rattle.rules.specs.Laws.{Same, QuantifierFree, HoldsDecides, MatchingRight, ForAllKeeps}
@@ -31,9 +34,6 @@ whether-iff false h = Iff·not h
 pub ranges-iff : (q : Quantifier) {A B : ℤ → Type 0} → ((z : ℤ) → A z ↔ B z) → Ranges q A ↔ Ranges q B
 ranges-iff for-some h = (λ p. (p .0, h (p .0) .0 (p .1)), λ p. (p .0, h (p .0) .1 (p .1)))
 ranges-iff for-all h = (λ f z. h z .0 (f z), λ f z. h z .1 (f z))
-
-pub at-equal : (Q : ℤ → Type 0) {y z : ℤ} → y ≡ z → Q y ↔ Q z
-at-equal Q e = (subst Q e, subst Q (sym e))
 
 pub bind-same : (q : Quantifier) (x : ℕ) (a b : Rule) → Same a b → Same (Bind q x a) (Bind q x b)
 unfolding Holds
@@ -55,6 +55,15 @@ not-free a e = e
 pub bind-free : {X : Type 0} (q : Quantifier) (v : ℕ) (a : Rule) → QuantifierFree (Bind q v a) → X
 unfolding quantifiers
 bind-free q v a e = absurd (omega arith)
+
+-- what the test `quantified` says
+pub none-quantified : (a : Rule) → T (not (quantified a)) → QuantifierFree a
+unfolding quantified
+none-quantified a t = omega (arith, nltb→le 0 (quantifiers a) t)
+
+pub some-quantified : (a : Rule) → T (quantified a) → 0 < quantifiers a
+unfolding quantified
+some-quantified a t = ltb→lt 0 (quantifiers a) t
 
 -- ---- the tests decide
 
@@ -93,10 +102,8 @@ unfolding matching
 matching-right vs a b e =
     let (q, e₁) = required (not (quantified a)) 10 _ e in
     let (w, e₂) = required (all-within most-value vs) 9 _ e₁ in
-    subst (λ (c : Bool). T c ↔ Holds a (choice vs)) (given-inj e₂) (holds-decides a (choice vs) (none q))
-  where
-    none : T (not (quantified a)) → QuantifierFree a
-    none q = unfold quantified in omega (arith, nltb→le 0 (quantifiers a) q)
+    let right = holds-decides a (choice vs) (none-quantified a q) in
+    subst (λ (c : Bool). T c ↔ Holds a (choice vs)) (given-inj e₂) right
 
 -- ---- the for-all
 

@@ -1,11 +1,11 @@
 -- Step 1 keeps the meaning, plainly and under a not, and leaves no not and no T = 0.
 -- Assumes nothing.
-use mathlib.Core.Path.{_≡_, refl, sym, _∙_, ap, subst}
-use mathlib.Core.Logic.{_↔_, _⊎_, inl, inr, Iff·rfl, Iff·trans, Iff·symm, Iff·and}
+use mathlib.Core.Path.{_≡_, refl}
+use mathlib.Core.Logic.{_↔_, _⊎_, inl, inr, Iff·rfl, Iff·trans, Iff·and}
 use mathlib.Core.Bool.{Bool, true, false, not}
 use Prim.Native.Nat.{ℕ, zero, suc}
 use native.Mathlib.Omega.{arith}
-use lib.Dec.{T, lt→ltb}
+use lib.Dec.{lt→ltb}
 use lib.IntN.{ℤ, pos, negsuc, negℤ, _+ℤ_}
 use lib.Signed.{_<ℤ_}
 use Rattle.whole.specs.Divides.{Divides, divides}
@@ -13,19 +13,22 @@ use Rattle.whole.proofs.Tests.{T-dec}
 use Rattle.whole.proofs.Lists.{⊎-iff}
 use Rattle.whole.proofs.Difference.{zz, z1}
 use Rattle.whole.proofs.Divisibility.{divides-neg-iff, divides-test}
-use Rattle.rules.specs.Sum.{Sum, Choice, factor, negate, one-plus, one-minus, value}
-use Rattle.rules.specs.Rule.{Junction, and, or, Test, positive, divisible, is-zero, Rule, Constant, Join, Not, Literal, Bind, Joined, Whether, Passes, Holds, whether}
+use Rattle.rules.specs.Sum.{Sum, Choice, factor, negate, value}
+use Rattle.rules.specs.Rule.{Junction, and, or, Test, positive, divisible, is-zero}
+use Rattle.rules.specs.Rule.{Rule, Constant, Join, Not, Literal, Bind, Joined, Whether, Passes, Holds, whether}
 use Rattle.rules.specs.Steps.{by-de-morgan, x-not-negative, normal-literal, normal}
 use Rattle.rules.specs.Laws.{QuantifierFree, Normal, NoZero, NormalKeeps}
 use Rattle.rules.proofs.Sums.{value-negate, value-one-plus, value-one-minus}
-use Rattle.rules.proofs.Meaning.{joined-iff, whether-iff, at-equal, T-whether, join-free, not-free, bind-free, dec-iff, decided}
+use Rattle.rules.proofs.Meaning.{joined-iff, whether-iff, at-equal, T-whether}
+use Rattle.rules.proofs.Meaning.{join-free, not-free, bind-free, dec-iff, decided}
 
 -- ---- nots
 
 twice : {A : Type 0} → Dec A → A ↔ (¬ (¬ A))
 twice d = (λ a f. f a, λ f. elim d [ yes a ↦ a | no n ↦ absurd (f n) ])
 
-de-morgan : (plainly : Bool) (j : Junction) (A B : Type 0) → Dec A → Joined (by-de-morgan plainly j) (Whether plainly A) (Whether plainly B) ↔ Whether plainly (Joined j A B)
+de-morgan : (plainly : Bool) (j : Junction) (A B : Type 0) → Dec A
+    → Joined (by-de-morgan plainly j) (Whether plainly A) (Whether plainly B) ↔ Whether plainly (Joined j A B)
 de-morgan true j A B d = Iff·rfl
 de-morgan false and A B d = (
   λ s p. elim s [ inl f ↦ f (p .0) | inr g ↦ g (p .1) ],
@@ -40,7 +43,8 @@ whether-not : (plainly : Bool) {A : Type 0} → Dec A → Whether (not plainly) 
 whether-not true d = Iff·rfl
 whether-not false d = twice d
 
-whether-whether : (plainly b : Bool) {A : Type 0} → Dec A → Whether (whether plainly b) A ↔ Whether plainly (Whether b A)
+whether-whether : (plainly b : Bool) {A : Type 0} → Dec A
+    → Whether (whether plainly b) A ↔ Whether plainly (Whether b A)
 whether-whether true b d = Iff·rfl
 whether-whether false true d = Iff·rfl
 whether-whether false false d = twice d
@@ -67,23 +71,32 @@ beside-zero z = (λ s. elim s [ inl h ↦ below z h | inr h ↦ above z h ], λ 
     aside (pos (suc k)) n = inr (record { lt = lt→ltb 0 (suc k) (omega arith) })
     aside (negsuc k) n = inl (record { lt = lt→ltb 0 (suc k) (omega arith) })
 
-x-not-negative-keeps : (x k : ℕ) (s : Sum) (ρ : Choice) → Divides k (value (x-not-negative x s) ρ) ↔ Divides k (value s ρ)
+-- T stays or is negated
+pub x-not-negative-ind : (Q : Sum → Type 0) (x : ℕ) (s : Sum) → Q s → Q (negate s) → Q (x-not-negative x s)
 unfolding x-not-negative
-x-not-negative-keeps x k s ρ = go (factor x s)
+x-not-negative-ind Q x s stays negated = by-sign (factor x s)
   where
-    go : (f : ℤ) → Divides k (value (elim f [ pos a ↦ s | negsuc a ↦ negate s ]) ρ) ↔ Divides k (value s ρ)
-    go (pos a) = Iff·rfl
-    go (negsuc a) = Iff·trans (at-equal (Divides k) (value-negate s ρ)) (divides-neg-iff k (value s ρ))
+    by-sign : (f : ℤ) → Q (elim f [ pos a ↦ s | negsuc a ↦ negate s ])
+    by-sign (pos a) = stays
+    by-sign (negsuc a) = negated
 
-literal-keeps : (plainly : Bool) (x : ℕ) (t : Test) (s : Sum) (ρ : Choice) → Holds (normal-literal plainly x t s) ρ ↔ Whether plainly (Passes t (value s ρ))
+x-not-negative-keeps : (x k : ℕ) (s : Sum) (ρ : Choice)
+    → Divides k (value (x-not-negative x s) ρ) ↔ Divides k (value s ρ)
+x-not-negative-keeps x k s ρ = x-not-negative-ind (λ u. Divides k (value u ρ) ↔ Divides k (value s ρ)) x s
+    Iff·rfl (Iff·trans (at-equal (Divides k) (value-negate s ρ)) (divides-neg-iff k (value s ρ)))
+
+literal-keeps : (plainly : Bool) (x : ℕ) (t : Test) (s : Sum) (ρ : Choice)
+    → Holds (normal-literal plainly x t s) ρ ↔ Whether plainly (Passes t (value s ρ))
 unfolding normal-literal Holds
 literal-keeps true x positive s ρ = Iff·rfl
-literal-keeps false x positive s ρ = Iff·trans (at-equal (λ z. pos 0 <ℤ z) (value-one-minus s ρ)) (not-positive (value s ρ))
+literal-keeps false x positive s ρ = Iff·trans
+    (at-equal (Passes positive) (value-one-minus s ρ))
+    (not-positive (value s ρ))
 literal-keeps true x is-zero s ρ = Iff·trans
-    (Iff·and (at-equal (λ z. pos 0 <ℤ z) (value-one-minus s ρ)) (at-equal (λ z. pos 0 <ℤ z) (value-one-plus s ρ)))
+    (Iff·and (at-equal (Passes positive) (value-one-minus s ρ)) (at-equal (Passes positive) (value-one-plus s ρ)))
     (zero-between (value s ρ))
 literal-keeps false x is-zero s ρ = Iff·trans
-    (⊎-iff (at-equal (λ z. pos 0 <ℤ z) (value-negate s ρ)) Iff·rfl)
+    (⊎-iff (at-equal (Passes positive) (value-negate s ρ)) Iff·rfl)
     (beside-zero (value s ρ))
 literal-keeps plainly x (divisible b k) s ρ = Iff·trans
     (whether-iff (whether plainly b) (x-not-negative-keeps x k s ρ))

@@ -1,14 +1,13 @@
--- From every literal to the rule: conditions on literals, rules whose literals agree, and what is gathered from literals.
+-- From every literal to the rule: conditions on literals, literals that agree, and what is gathered from literals.
 -- Assumes nothing.
 use mathlib.Core.Path.{_≡_}
 use mathlib.Core.Logic.{_↔_, _⊎_, inl, inr, Iff·rfl}
-use mathlib.Core.Bool.{Bool}
-use mathlib.Core.List.{List, [], _∷_, _++_}
-use Prim.Native.Nat.{ℕ, _+_}
+use mathlib.Core.List.{List, _++_}
 use native.Mathlib.Omega.{arith}
 use Rattle.whole.proofs.Lists.{All, Any, all-append, any-append}
 use Rattle.rules.specs.Sum.{Sum, Choice, value}
-use Rattle.rules.specs.Rule.{Junction, and, or, Quantifier, Test, Rule, Constant, Join, Not, Literal, Bind, Joined, Passes, Holds}
+use Rattle.rules.specs.Rule.{Junction, and, or, Test}
+use Rattle.rules.specs.Rule.{Rule, Constant, Join, Not, Literal, Bind, Joined, Passes, Holds}
 use Rattle.rules.specs.Chosen.{quantifiers}
 use Rattle.rules.specs.Literals.{gather, map-literals}
 use Rattle.rules.specs.Laws.{QuantifierFree, Each, Normal}
@@ -68,18 +67,20 @@ normal-free Q (Bind q v a) h = absurd h
 
 -- ---- literals made anew
 
-module _ (f : Test → Sum → Rule) (Q R : Test → Sum → Type 0) (each : (t : Test) (s : Sum) → Q t s → Normal R (f t s)) where
-  pub map-normal : (a : Rule) → Normal Q a → Normal R (map-literals f a)
+module _ (f : Test → Sum → Rule) (Q R : Test → Sum → Type 0) where
+  pub map-normal : ((t : Test) (s : Sum) → Q t s → Normal R (f t s))
+      → (a : Rule) → Normal Q a → Normal R (map-literals f a)
   unfolding Normal map-literals
-  map-normal (Constant b) h = tt
-  map-normal (Join j a b) h = (map-normal a (h .0), map-normal b (h .1))
-  map-normal (Not a) h = h
-  map-normal (Literal t s) h = each t s h
-  map-normal (Bind q v a) h = h
+  map-normal each (Constant b) h = tt
+  map-normal each (Join j a b) h = (map-normal each a (h .0), map-normal each b (h .1))
+  map-normal each (Not a) h = h
+  map-normal each (Literal t s) h = each t s h
+  map-normal each (Bind q v a) h = h
 
 module _ (f : Test → Sum → Rule) (σ τ : Choice) where
   -- made anew they say at σ what they said at τ
-  pub map-keeps : (a : Rule) → Normal (λ t s. Holds (f t s) σ ↔ Passes t (value s τ)) a → Holds (map-literals f a) σ ↔ Holds a τ
+  pub map-keeps : (a : Rule) → Normal (λ t s. Holds (f t s) σ ↔ Passes t (value s τ)) a
+      → Holds (map-literals f a) σ ↔ Holds a τ
   unfolding Normal map-literals Holds
   map-keeps (Constant b) h = Iff·rfl
   map-keeps (Join j a b) h = joined-iff j (map-keeps a (h .0)) (map-keeps b (h .1))
@@ -88,7 +89,8 @@ module _ (f : Test → Sum → Rule) (σ τ : Choice) where
   map-keeps (Bind q v a) h = absurd h
 
   -- made anew they say the same at σ and at τ
-  pub map-same : (a : Rule) → Normal (λ t s. Holds (f t s) σ ↔ Holds (f t s) τ) a → Holds (map-literals f a) σ ↔ Holds (map-literals f a) τ
+  pub map-same : (a : Rule) → Normal (λ t s. Holds (f t s) σ ↔ Holds (f t s) τ) a
+      → Holds (map-literals f a) σ ↔ Holds (map-literals f a) τ
   unfolding Normal map-literals Holds
   map-same (Constant b) h = Iff·rfl
   map-same (Join j a b) h = joined-iff j (map-same a (h .0)) (map-same b (h .1))
@@ -96,28 +98,36 @@ module _ (f : Test → Sum → Rule) (σ τ : Choice) where
   map-same (Literal t s) h = h
   map-same (Bind q v a) h = absurd h
 
--- a rule without nots goes from σ to τ where its literals do, or C is met
-joined-or : {C : Type 0} (j : Junction) (A B A′ B′ : Type 0) → (A → C ⊎ A′) → (B → C ⊎ B′) → Joined j A B → C ⊎ Joined j A′ B′
-joined-or and A B A′ B′ f g h = elim (f (h .0)) [ inl c ↦ inl c | inr a ↦ elim (g (h .1)) [ inl c ↦ inl c | inr b ↦ inr (a, b) ] ]
-joined-or or A B A′ B′ f g (inl h) = elim (f h) [ inl c ↦ inl c | inr a ↦ inr (inl a) ]
-joined-or or A B A′ B′ f g (inr h) = elim (g h) [ inl c ↦ inl c | inr b ↦ inr (inr b) ]
+-- a rule without nots goes from σ to τ where its literals do, or Else is met
+joined-or : {Else : Type 0} (j : Junction) (A B C D : Type 0) → (A → Else ⊎ C) → (B → Else ⊎ D)
+    → Joined j A B → Else ⊎ Joined j C D
+joined-or and A B C D f g h = elim (f (h .0)) [
+  | inl e ↦ inl e
+  | inr c ↦ elim (g (h .1)) [ inl e ↦ inl e | inr d ↦ inr (c, d) ]
+]
+joined-or or A B C D f g (inl a) = elim (f a) [ inl e ↦ inl e | inr c ↦ inr (inl c) ]
+joined-or or A B C D f g (inr b) = elim (g b) [ inl e ↦ inl e | inr d ↦ inr (inr d) ]
 
-pub goes-over : (C : Type 0) (σ τ : Choice) (a : Rule) → Normal (λ t s. Passes t (value s σ) → C ⊎ Passes t (value s τ)) a → Holds a σ → C ⊎ Holds a τ
+pub goes-over : (Else : Type 0) (σ τ : Choice) (a : Rule)
+    → Normal (λ t s. Passes t (value s σ) → Else ⊎ Passes t (value s τ)) a
+    → Holds a σ → Else ⊎ Holds a τ
 unfolding Normal Holds
-goes-over C σ τ (Constant b) n h = inr h
-goes-over C σ τ (Join j a b) n h =
-    joined-or j (Holds a σ) (Holds b σ) (Holds a τ) (Holds b τ) (goes-over C σ τ a (n .0)) (goes-over C σ τ b (n .1)) h
-goes-over C σ τ (Not a) n h = absurd n
-goes-over C σ τ (Literal t s) n h = n h
-goes-over C σ τ (Bind q v a) n h = absurd n
+goes-over Else σ τ (Constant b) n h = inr h
+goes-over Else σ τ (Join j a b) n h = joined-or j (Holds a σ) (Holds b σ) (Holds a τ) (Holds b τ)
+    (goes-over Else σ τ a (n .0)) (goes-over Else σ τ b (n .1)) h
+goes-over Else σ τ (Not a) n h = absurd n
+goes-over Else σ τ (Literal t s) n h = n h
+goes-over Else σ τ (Bind q v a) n h = absurd n
 
 -- ---- what is gathered
 
 module _ {A : Type 0} (f : Test → Sum → List A) (R : Test → Sum → Type 0) where
-  pub gathered-all : (Q : A → Type 0) → ((t : Test) (s : Sum) → R t s → All Q (f t s)) → (a : Rule) → Normal R a → All Q (gather f a)
+  pub gathered-all : (Q : A → Type 0) → ((t : Test) (s : Sum) → R t s → All Q (f t s))
+      → (a : Rule) → Normal R a → All Q (gather f a)
   unfolding Normal gather All
   gathered-all Q g (Constant b) n = tt
-  gathered-all Q g (Join j a b) n = all-append Q (gather f a) (gather f b) .1 (gathered-all Q g a (n .0), gathered-all Q g b (n .1))
+  gathered-all Q g (Join j a b) n =
+      all-append Q (gather f a) (gather f b) .1 (gathered-all Q g a (n .0), gathered-all Q g b (n .1))
   gathered-all Q g (Not a) n = absurd n
   gathered-all Q g (Literal t s) n = g t s n
   gathered-all Q g (Bind q v a) n = absurd n
@@ -136,13 +146,21 @@ module _ {A : Type 0} (f : Test → Sum → List A) (R : Test → Sum → Type 0
   abbrev pub Among : List A → Test → Sum → Type 0
   Among l t s = (y : A) → Any (λ z. z ≡ y) (f t s) → Any (λ z. z ≡ y) l
 
+  among-left : (k l : List A) (t : Test) (s : Sum) → Among k t s → Among (k ++ l) t s
+  among-left k l t s among y h = any-append (λ z. z ≡ y) k l .1 (inl (among y h))
+
+  among-right : (k l : List A) (t : Test) (s : Sum) → Among l t s → Among (k ++ l) t s
+  among-right k l t s among y h = any-append (λ z. z ≡ y) k l .1 (inr (among y h))
+
   pub gathered-among : (a : Rule) → Normal R a → Normal (Among (gather f a)) a
   unfolding Normal gather
   gathered-among (Constant b) n = tt
-  gathered-among (Join j a b) n = (
-    normal-imp (Among (gather f a)) (Among (gather f a ++ gather f b)) (λ t s g y h. any-append (λ z. z ≡ y) (gather f a) (gather f b) .1 (inl (g y h))) a (gathered-among a (n .0)),
-    normal-imp (Among (gather f b)) (Among (gather f a ++ gather f b)) (λ t s g y h. any-append (λ z. z ≡ y) (gather f a) (gather f b) .1 (inr (g y h))) b (gathered-among b (n .1)),
-  )
+  gathered-among (Join j a b) n =
+      let k : List A = gather f a in
+      let l : List A = gather f b in (
+        normal-imp (Among k) (Among (k ++ l)) (among-left k l) a (gathered-among a (n .0)),
+        normal-imp (Among l) (Among (k ++ l)) (among-right k l) b (gathered-among b (n .1)),
+      )
   gathered-among (Not a) n = n
   gathered-among (Literal t s) n = λ y h. h
   gathered-among (Bind q v a) n = n

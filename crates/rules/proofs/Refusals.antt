@@ -36,13 +36,15 @@ unfolding given-or
 given-inj {a} e = ap (given-or a) e
 
 -- the first part gave something, and the rest went on with it
-pub parts : {A B : Type 0} (m : Result A) (f : A → Result B) {b : B} → (m >>= f) ≡ given b → (a : A) × (m ≡ given a) × (f a ≡ given b)
+pub parts : {A B : Type 0} (m : Result A) (f : A → Result B) {b : B}
+    → (m >>= f) ≡ given b → (a : A) × (m ≡ given a) × (f a ≡ given b)
 unfolding _>>=_
 parts (refused n) f e = never e
 parts (given a) f e = (a, refl, e)
 
 -- the test passed, and the rest went on
-pub required : {B : Type 0} (c : Bool) (n : ℕ) (f : Unit {0} → Result B) {b : B} → (require c n >>= f) ≡ given b → T c × (f tt ≡ given b)
+pub required : {B : Type 0} (c : Bool) (n : ℕ) (f : Unit {0} → Result B) {b : B}
+    → (require c n >>= f) ≡ given b → T c × (f tt ≡ given b)
 unfolding require _>>=_
 required true n f e = (tt, e)
 required false n f e = never e

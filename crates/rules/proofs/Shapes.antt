@@ -1,30 +1,35 @@
 -- What the steps leave is what the next step asks for and what a table can hold.
 -- Assumes nothing.
-use mathlib.Core.Path.{_≡_, refl, sym, _∙_, ap, subst}
-use mathlib.Core.Logic.{_⊎_, inl, inr}
-use mathlib.Core.Bool.{Bool, true, false, not, _&&_, _||_, cond}
+use mathlib.Core.Path.{_≡_, refl, sym, _∙_, subst}
+use mathlib.Core.Bool.{Bool, true, false, not, cond}
 use mathlib.Core.List.{List, [], _∷_, _++_, map}
-use Prim.Native.Nat.{ℕ, zero, suc, _+_, _*_, _≤_, _<_}
+use Prim.Native.Nat.{ℕ, zero, suc, _≤_, _<_}
 use native.Mathlib.Nat.{mul-pos}
 use native.Mathlib.Omega.{arith}
-use lib.Dec.{T, leb, leb→le, le→leb, ltb, nltb→le}
+use lib.Dec.{T, leb, le→leb, nltb→le}
 use lib.IntN.{ℤ, pos, negsuc, natAbs}
 use lib.ListN.{length}
 use Rattle.whole.specs.Integers.{eqZ}
-use Rattle.whole.proofs.Tests.{T-and, T-or, T-no, cond-ind}
+use Rattle.whole.proofs.Tests.{T-and, not-or, not-not, cond-ind}
 use Rattle.whole.proofs.Lists.{All, all-append, all-map, all-imp}
-use Rattle.rules.specs.Sum.{Sum, factor, add, scale, negate, put, number, setting, one-plus, one-minus, same, limit, all-within}
-use Rattle.rules.specs.Rule.{Junction, Quantifier, Test, positive, divisible, is-zero, Rule, Constant, Join, Not, Literal, Bind, True, False}
-use Rattle.rules.specs.Table.{is-setting, is-divisor}
-use Rattle.rules.specs.Chosen.{quantifiers}
-use Rattle.rules.specs.Literals.{some-literal, gather, map-literals}
-use Rattle.rules.specs.Steps.{x-not-negative, normal-literal, normal, common-factor, multiplier, times, sign, scale-literal, scaled, bound-of, without, once, bounds, far-literal, far-left, sum-at, body-at, for-each, disjuncts, any-of, disjunction}
+use Rattle.rules.specs.Sum.{Sum, factor, add, scale, negate, put, number, setting}
+use Rattle.rules.specs.Sum.{one-plus, one-minus, same, limit, all-within}
+use Rattle.rules.specs.Rule.{Test, positive, divisible, is-zero}
+use Rattle.rules.specs.Rule.{Rule, Constant, Join, Not, Literal, Bind, True, False}
+use Rattle.rules.specs.Table.{is-divisor}
+use Rattle.rules.specs.Literals.{some-literal, gather}
+use Rattle.rules.specs.Steps.{normal-literal, normal}
+use Rattle.rules.specs.Steps.{common-factor, multiplier, times, sign, scale-literal, scaled}
+use Rattle.rules.specs.Steps.{bound-of, without, once, bounds, far-literal, far-left}
+use Rattle.rules.specs.Steps.{sum-at, body-at, for-each, disjuncts, any-of, disjunction}
 use Rattle.rules.specs.Eliminate.{divisor-over, over-limit}
 use Rattle.rules.specs.Laws.{DivisorOf, Each, InTable, WellFormed, Normal, NoZero, UnitFactor}
 use Rattle.rules.proofs.Sums.{factor-put, length-scale, length-add, length-put}
+use Rattle.rules.proofs.Encoding.{divisor-range}
 use Rattle.rules.proofs.Folding.{ByParts}
-use Rattle.rules.proofs.OverLiterals.{normal-imp, normal-both, each-imp, each-normal, map-normal, gathered-all}
-use Rattle.rules.proofs.CommonFactor.{SizeDivides, sizes-divide, common-factor-pos, Multiplies, multiplies}
+use Rattle.rules.proofs.NormalForm.{x-not-negative-ind}
+use Rattle.rules.proofs.OverLiterals.{normal-both, each-imp, each-normal, map-normal, gathered-all}
+use Rattle.rules.proofs.CommonFactor.{common-factor-pos, Scalable, all-scalable, multiplies}
 
 -- ---- conditions on literals go by parts
 
@@ -55,23 +60,13 @@ normal-by-parts Q = record {
 abbrev pub Shape : Test → Sum → Type 0
 Shape t s = (length s ≡ 7) × DivisorOf (λ k. 0 < k) t
 
-divisor-imp : (Q R : ℕ → Type 0) → ((k : ℕ) → Q k → R k) → (t : Test) → DivisorOf Q t → DivisorOf R t
-divisor-imp Q R f positive h = tt
-divisor-imp Q R f (divisible b k) h = f k h
-divisor-imp Q R f is-zero h = tt
-
 pub formed-shape : (a : Rule) → WellFormed a → Each Shape a
-unfolding is-divisor
-formed-shape = each-imp InTable Shape
-    (λ t s h. (h .0, divisor-imp (λ k. T (is-divisor (pos k))) (λ k. 0 < k) (λ k d. leb→le 1 k (T-and (leb 1 k) (leb k limit) .0 d .0)) t (h .2)))
-
-not-or : (a b : Bool) → T (not (a || b)) → T (not a) × T (not b)
-not-or true b h = absurd h
-not-or false b h = (tt, h)
-
-not-not : (a : Bool) → T (not (not a)) → T a
-not-not true h = tt
-not-not false h = h
+formed-shape = each-imp InTable Shape (λ t s h. (h .0, positive-divisor t (h .2)))
+  where
+    positive-divisor : (t : Test) → DivisorOf (λ k. T (is-divisor (pos k))) t → DivisorOf (λ k. 0 < k) t
+    positive-divisor positive h = tt
+    positive-divisor (divisible b k) h = divisor-range k h .0
+    positive-divisor is-zero h = tt
 
 pub fits-formed : (a : Rule) → Each Shape a → T (not (some-literal over-limit a)) → WellFormed a
 unfolding Each some-literal over-limit
@@ -84,9 +79,11 @@ fits-formed (Literal t s) h n =
     let k = not-or (not (all-within limit s)) (divisor-over t) n in
     (h .0, not-not (all-within limit s) (k .0), divisor t (h .1) (k .1))
   where
-    divisor : (t : Test) → DivisorOf (λ k. 0 < k) t → T (not (divisor-over t)) → DivisorOf (λ k. T (is-divisor (pos k))) t
+    divisor : (t : Test) → DivisorOf (λ k. 0 < k) t → T (not (divisor-over t))
+        → DivisorOf (λ k. T (is-divisor (pos k))) t
     divisor positive h n = tt
-    divisor (divisible b k) h n = unfold is-divisor in T-and (leb 1 k) (leb k limit) .1 (le→leb 1 k h, le→leb k limit (nltb→le limit k n))
+    divisor (divisible b k) h n = unfold is-divisor in
+        T-and (leb 1 k) (leb k limit) .1 (le→leb 1 k h, le→leb k limit (nltb→le limit k n))
     divisor is-zero h n = tt
 fits-formed (Bind q v a) h n = (h .0, fits-formed a (h .1) n)
 
@@ -107,22 +104,16 @@ seven-put v a s h e = length-put v a s (subst (λ (n : ℕ). v < n) (sym e) h) �
 
 -- ---- step 1
 
-normal-seven : (x : ℕ) (s : Sum) → Seven s → Seven (x-not-negative x s)
-unfolding x-not-negative
-normal-seven x s e = go (factor x s)
-  where
-    go : (f : ℤ) → Seven (elim f [ pos a ↦ s | negsuc a ↦ negate s ])
-    go (pos a) = e
-    go (negsuc a) = seven-negate s e
-
 literal-shape : (plainly : Bool) (x : ℕ) (t : Test) (s : Sum) → Shape t s → Each Shape (normal-literal plainly x t s)
 unfolding normal-literal Each one-minus one-plus
 literal-shape true x positive s h = h
 literal-shape false x positive s h = (seven-add (number (pos 1)) (negate s) refl (seven-negate s (h .0)), tt)
-literal-shape true x is-zero s h =
-    ((seven-add (number (pos 1)) (negate s) refl (seven-negate s (h .0)), tt), (seven-add (number (pos 1)) s refl (h .0), tt))
+literal-shape true x is-zero s h = (
+  (seven-add (number (pos 1)) (negate s) refl (seven-negate s (h .0)), tt),
+  (seven-add (number (pos 1)) s refl (h .0), tt),
+)
 literal-shape false x is-zero s h = ((seven-negate s (h .0), tt), (h .0, tt))
-literal-shape plainly x (divisible b k) s h = (normal-seven x s (h .0), h .1)
+literal-shape plainly x (divisible b k) s h = (x-not-negative-ind Seven x s (h .0) (seven-negate s (h .0)), h .1)
 
 pub normal-shape : (plainly : Bool) (x : ℕ) (a : Rule) → Each Shape a → Each Shape (normal plainly x a)
 unfolding normal Each
@@ -142,36 +133,46 @@ sign-size (negsuc n) = omega arith
 abbrev pub Scaled : ℕ → Test → Sum → Type 0
 Scaled x t s = UnitFactor x t s × Shape t s
 
-scaled-literal : (D x : ℕ) (t : Test) (s : Sum) → x < 7 → 0 < D → NoZero t s × (SizeDivides D x t s × Shape t s) → Normal (Scaled x) (scale-literal D x t s)
-unfolding scale-literal Normal
-scaled-literal D x t s g p h = (unit t (h .0), (seven-put x (sign (factor x s)) (scale (pos m) s) g (length-scale (pos m) s ∙ h .1 .1 .0), divisor t (h .1 .1 .1)))
-  where
-    m : ℕ
-    m = multiplier D x s
+module _ (D x : ℕ) (in-range : x < 7) (positive-D : 0 < D) where
+  abbrev ShapedScalable : Test → Sum → Type 0
+  ShapedScalable t s = Scalable D x t s × Shape t s
 
-    unit : (r : Test) → NoZero r s → UnitFactor x (times m r) (put x (sign (factor x s)) (scale (pos m) s))
-    unit positive n = subst (λ f. natAbs f ≤ 1) (sym (factor-put x (sign (factor x s)) (scale (pos m) s))) (sign-size (factor x s))
-    unit (divisible b k) n = tt
-    unit is-zero n = absurd n
+  scaled-literal : (t : Test) (s : Sum) → ShapedScalable t s → Normal (Scaled x) (scale-literal D x t s)
+  unfolding scale-literal Normal
+  scaled-literal t s ((no-zero, sized), (seven, divisor-pos)) = (unit t no-zero, (words, divisor t divisor-pos))
+    where
+      m : ℕ
+      m = multiplier D x s
 
-    divisor : (r : Test) → DivisorOf (λ k. 0 < k) r → DivisorOf (λ k. 0 < k) (times m r)
-    divisor positive d = tt
-    divisor (divisible b k) d = mul-pos (multiplies D x t s p (h .1 .0) .positive) d
-    divisor is-zero d = tt
+      e : ℤ
+      e = sign (factor x s)
 
-pub scaled-normal : (x : ℕ) (a : Rule) → x < 7 → Normal NoZero a → Each Shape a → Normal (Scaled x) (scaled (common-factor x a) x a)
-unfolding scaled Normal setting
-scaled-normal x a g n h = (
-  map-normal (scale-literal D x) (λ t s. NoZero t s × (SizeDivides D x t s × Shape t s)) (Scaled x) (λ t s k. scaled-literal D x t s g positive-D k) a
-      (normal-both NoZero (λ t s. SizeDivides D x t s × Shape t s) a n (normal-both (SizeDivides D x) Shape a (sizes-divide x a n) (each-normal NoZero Shape a n h))),
-  (tt, (seven-put x (pos 1) (number (pos 0)) g refl, positive-D)),
-)
-  where
-    D : ℕ
-    D = common-factor x a
+      words : Seven (put x e (scale (pos m) s))
+      words = seven-put x e (scale (pos m) s) in-range (length-scale (pos m) s ∙ seven)
 
-    positive-D : 0 < D
-    positive-D = common-factor-pos x a n
+      unit : (r : Test) → NoZero r s → UnitFactor x (times m r) (put x e (scale (pos m) s))
+      unit positive n = subst (λ f. natAbs f ≤ 1) (sym (factor-put x e (scale (pos m) s))) (sign-size (factor x s))
+      unit (divisible b k) n = tt
+      unit is-zero n = absurd n
+
+      divisor : (r : Test) → DivisorOf (λ k. 0 < k) r → DivisorOf (λ k. 0 < k) (times m r)
+      divisor positive d = tt
+      divisor (divisible b k) d = mul-pos (multiplies D x t s positive-D sized .positive) d
+      divisor is-zero d = tt
+
+  scaled-body : (a : Rule) → Normal ShapedScalable a → Normal (Scaled x) (scaled D x a)
+  unfolding scaled Normal setting
+  scaled-body a n = (
+    map-normal (scale-literal D x) ShapedScalable (Scaled x) scaled-literal a n,
+    (tt, (seven-put x (pos 1) (number (pos 0)) in-range refl, positive-D)),
+  )
+
+pub scaled-normal : (x : ℕ) (a : Rule) → x < 7 → Normal NoZero a → Each Shape a
+    → Normal (Scaled x) (scaled (common-factor x a) x a)
+scaled-normal x a in-range n h =
+    let D : ℕ = common-factor x a in
+    scaled-body D x in-range (common-factor-pos x a n) a
+    (normal-both (Scalable D x) Shape a (all-scalable x a n) (each-normal NoZero Shape a n h))
 
 -- ---- step 3, over what is asked of the literals (Q), of the sums put in for x (B), and of the literals made (R)
 
@@ -179,7 +180,9 @@ module _ (B : Sum → Type 0) where
   all-without : (b : Sum) (l : List Sum) → All B l → All B (without b l)
   unfolding All without
   all-without b [] h = tt
-  all-without b (c ∷ l) h = cond-ind (same b c) (without b l) (c ∷ without b l) (All B) (λ t. all-without b l (h .1)) (λ t. (h .0, all-without b l (h .1)))
+  all-without b (c ∷ l) h =
+      let rest : All B (without b l) = all-without b l (h .1) in
+      cond-ind (same b c) (without b l) (c ∷ without b l) (All B) (λ t. rest) (λ t. (h .0, rest))
 
   all-once : (l : List Sum) → All B l → All B (once l)
   unfolding All once
@@ -190,13 +193,34 @@ module _ {A : Type 0} (Q : A → Type 0) where
   all-for-each : (from n : ℕ) (f : ℕ → List A) → ((j : ℕ) → All Q (f j)) → All Q (for-each from n f)
   unfolding All for-each
   all-for-each from zero f h = tt
-  all-for-each from (suc n) f h = all-append Q (f from) (for-each (suc from) n f) .1 (h from, all-for-each (suc from) n f h)
+  all-for-each from (suc n) f h =
+      all-append Q (f from) (for-each (suc from) n f) .1 (h from, all-for-each (suc from) n f h)
 
 any-of-parts : (Q : Rule → Type 0) → ByParts Q → (ds : List Rule) → All Q ds → Q (any-of ds)
 unfolding All any-of
 any-of-parts Q by [] h = by .constant false
 any-of-parts Q by (a ∷ []) h = h .0
 any-of-parts Q by (a ∷ b ∷ l) h = by .join _ a (any-of (b ∷ l)) (h .0) (any-of-parts Q by (b ∷ l) (h .1))
+
+-- the far-left body asks of its literals what the body does
+pub far-normal : (x : ℕ) (Q : Test → Sum → Type 0) (a : Rule) → Normal Q a → Normal Q (far-left x a)
+unfolding far-left
+far-normal x Q = map-normal (far-literal x) Q Q each
+  where
+    each : (t : Test) (s : Sum) → Q t s → Normal Q (far-literal x t s)
+    each positive s h = unfold far-literal Normal in
+        let otherwise : Rule = cond (eqZ (factor x s) (negsuc 0)) True (Literal positive s) in
+        cond-ind (eqZ (factor x s) (pos 1)) False otherwise (Normal Q) (λ c. tt)
+        (λ c. cond-ind (eqZ (factor x s) (negsuc 0)) True (Literal positive s) (Normal Q) (λ i. tt) (λ i. h))
+    each (divisible b k) s h = unfold far-literal Normal in h
+    each is-zero s h = unfold far-literal Normal in h
+
+-- the disjuncts of one j: the far-left body at j, and the body at b + j for each bound b
+abbrev pub fars : ℕ → Rule → ℕ → List Rule
+fars x a j = body-at x (number (pos j)) (far-left x a) ∷ []
+
+abbrev pub nears : ℕ → Rule → ℕ → List Rule
+nears x a j = map (λ b. body-at x (add b (number (pos j))) a) (bounds x a)
 
 pub record Substitutes (x : ℕ) (Q : Test → Sum → Type 0) (B : Sum → Type 0) (R : Test → Sum → Type 0) : Type 0 where
   pub numeral : (j : ℕ) → B (number (pos j))
@@ -205,17 +229,6 @@ pub record Substitutes (x : ℕ) (Q : Test → Sum → Type 0) (B : Sum → Type
   pub literal : (t : Test) (s u : Sum) → Q t s → B u → R t (sum-at x u s)
 
 module _ (x : ℕ) (Q : Test → Sum → Type 0) (B : Sum → Type 0) (R : Test → Sum → Type 0) (by : Substitutes x Q B R) where
-  far-normal : (a : Rule) → Normal Q a → Normal Q (far-left x a)
-  unfolding far-left
-  far-normal = map-normal (far-literal x) Q Q each
-    where
-      each : (t : Test) (s : Sum) → Q t s → Normal Q (far-literal x t s)
-      each positive s h = unfold far-literal Normal in
-          cond-ind (eqZ (factor x s) (pos 1)) False (cond (eqZ (factor x s) (negsuc 0)) True (Literal positive s)) (Normal Q) (λ c. tt)
-          (λ c. cond-ind (eqZ (factor x s) (negsuc 0)) True (Literal positive s) (Normal Q) (λ i. tt) (λ i. h))
-      each (divisible b k) s h = unfold far-literal Normal in h
-      each is-zero s h = unfold far-literal Normal in h
-
   body-normal : (u : Sum) → B u → (a : Rule) → Normal Q a → Normal R (body-at x u a)
   unfolding body-at
   body-normal u b = map-normal (λ t s. Literal t (sum-at x u s)) Q R (λ t s h. unfold Normal in by .literal t s u h b)
@@ -226,25 +239,27 @@ module _ (x : ℕ) (Q : Test → Sum → Type 0) (B : Sum → Type 0) (R : Test 
     where
       each : (t : Test) (s : Sum) → Q t s → All B (bound-of x t s)
       each positive s h = unfold bound-of All in
-          cond-ind (eqZ (factor x s) (pos 1)) (negate (put x (pos 0) s) ∷ []) [] (All B) (λ c. (by .bound s h, tt)) (λ c. tt)
+          cond-ind (eqZ (factor x s) (pos 1)) (negate (put x (pos 0) s) ∷ []) [] (All B)
+          (λ c. (by .bound s h, tt)) (λ c. tt)
       each (divisible b k) s h = unfold bound-of All in tt
       each is-zero s h = unfold bound-of All in tt
 
   pub disjunction-normal : (P : ℕ) (a : Rule) → Normal Q a → Normal R (disjunction P x a)
   unfolding disjunction disjuncts
-  disjunction-normal P a n = any-of-parts (Normal R) (normal-by-parts R) (for-each 1 P fars ++ for-each 1 P nears)
-      (all-append (Normal R) (for-each 1 P fars) (for-each 1 P nears) .1 (all-for-each (Normal R) 1 P fars far, all-for-each (Normal R) 1 P nears near))
+  disjunction-normal P a n = any-of-parts (Normal R) (normal-by-parts R) (far-ones ++ near-ones)
+      (all-append (Normal R) far-ones near-ones .1
+      (all-for-each (Normal R) 1 P (fars x a) far, all-for-each (Normal R) 1 P (nears x a) near))
     where
-      fars : ℕ → List Rule
-      fars j = body-at x (number (pos j)) (far-left x a) ∷ []
+      far-ones : List Rule
+      far-ones = for-each 1 P (fars x a)
 
-      nears : ℕ → List Rule
-      nears j = map (λ b. body-at x (add b (number (pos j))) a) (bounds x a)
+      near-ones : List Rule
+      near-ones = for-each 1 P (nears x a)
 
-      far : (j : ℕ) → All (Normal R) (fars j)
-      far j = unfold All in (body-normal (number (pos j)) (by .numeral j) (far-left x a) (far-normal a n), tt)
+      far : (j : ℕ) → All (Normal R) (fars x a j)
+      far j = unfold All in (body-normal (number (pos j)) (by .numeral j) (far-left x a) (far-normal x Q a n), tt)
 
-      near : (j : ℕ) → All (Normal R) (nears j)
+      near : (j : ℕ) → All (Normal R) (nears x a j)
       near j = all-map (Normal R) (λ b. body-at x (add b (number (pos j))) a) (bounds x a)
           (all-imp (λ b h. body-normal (add b (number (pos j))) (by .above b j h) a n) (bounds x a) (bounds-all a n))
 
@@ -254,5 +269,9 @@ shape-substitutes x g = record {
   numeral = λ j. refl;
   above = λ b j h. seven-add b (number (pos j)) h refl;
   bound = λ s h. seven-negate (put x (pos 0) s) (seven-put x (pos 0) s g (h .0));
-  literal = λ t s u h b. (seven-add (put x (pos 0) s) (scale (factor x s) u) (seven-put x (pos 0) s g (h .0)) (length-scale (factor x s) u ∙ b), h .1);
+  literal = λ t s u h b. (at-sum s u (h .0) b, h .1);
 }
+  where
+    at-sum : (s u : Sum) → Seven s → Seven u → Seven (sum-at x u s)
+    at-sum s u h b = seven-add (put x (pos 0) s) (scale (factor x s) u)
+        (seven-put x (pos 0) s g h) (length-scale (factor x s) u ∙ b)

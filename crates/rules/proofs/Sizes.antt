@@ -6,8 +6,10 @@ use mathlib.Core.List.{List, [], _∷_, _++_, append-nil, append-assoc}
 use Prim.Native.Nat.{ℕ, suc, _+_, _≤_}
 use native.Mathlib.Omega.{arith}
 use lib.ListN.{length, length-append}
-use Rattle.rules.specs.Rule.{and, or, for-some, for-all, Test, positive, divisible, is-zero, Rule, Constant, Join, Not, Literal, Bind}
-use Rattle.rules.specs.Table.{Node, constant-node, join-node, not-node, literal-node, bind-node, body, width, count, nodes, bodies, starts, size}
+use Rattle.rules.specs.Rule.{and, or, for-some, for-all, Test, positive, divisible, is-zero}
+use Rattle.rules.specs.Rule.{Rule, Constant, Join, Not, Literal, Bind}
+use Rattle.rules.specs.Table.{Node, constant-node, join-node, not-node, literal-node, bind-node}
+use Rattle.rules.specs.Table.{body, width, count, nodes, bodies, starts, size}
 
 -- ---- nodes
 

@@ -1,8 +1,7 @@
 -- What the operations on sums do to a sum's value, and the value split into the part of one setting x and the rest.
 -- Assumes nothing.
 use mathlib.Core.Path.{_≡_, refl, sym, _∙_, ap, ap₂, fun-ext}
-use mathlib.Core.Bool.{Bool, true, false, _&&_}
-use mathlib.Core.List.{List, [], _∷_}
+use mathlib.Core.List.{[], _∷_}
 use Prim.Native.Nat.{ℕ, zero, suc, _≤_}
 use native.Mathlib.Nat.{suc-inj, suc-ne-zero, not-suc-le-zero, le-of-suc-le-suc}
 use native.Mathlib.Omega.{arith}
@@ -11,9 +10,10 @@ use lib.ListN.{length}
 use lib.IntN.{ℤ, pos, negsuc, negℤ, _+ℤ_, _*ℤ_, +ℤ-idl, +ℤ-idr, *ℤ-zero}
 use Rattle.whole.specs.Integers.{eqZ}
 use Rattle.whole.proofs.Tests.{T-and, cond-ind, eqZ→eq}
-use Rattle.whole.proofs.Difference.{zz, z1, z2, z3, z4, z5}
+use Rattle.whole.proofs.Difference.{zz, z1, z3, z4, z5}
 use Rattle.whole.proofs.Ring.{rr, ring, r4}
-use Rattle.rules.specs.Sum.{Sum, Choice, with, factor, add, scale, negate, put, number, setting, one-plus, one-minus, all-zero, no-factors, dot, places, value}
+use Rattle.rules.specs.Sum.{Sum, Choice, with, factor, add, scale, negate, put, number, setting}
+use Rattle.rules.specs.Sum.{one-plus, one-minus, all-zero, no-factors, dot, places, value}
 
 -- ---- the words, each times what stands beside it
 
@@ -80,17 +80,24 @@ no-part : (x y d : ℤ) → pos 0 *ℤ x +ℤ d ≡ pos 0 *ℤ y +ℤ d
 no-part = z3 _ (simp zz (omega arith))
 
 -- the rest does not look at place v
-dot-off : (v : ℕ) (s : Sum) (f g : ℕ → ℤ) → ((w : ℕ) → ¬ (w ≡ v) → f w ≡ g w) → dot (put v (pos 0) s) f ≡ dot (put v (pos 0) s) g
+abbrev AlikeBut : ℕ → (ℕ → ℤ) → (ℕ → ℤ) → Type 0
+AlikeBut v f g = (w : ℕ) → ¬ (w ≡ v) → f w ≡ g w
+
+alike-behind : (v : ℕ) (f g : ℕ → ℤ) → AlikeBut (suc v) f g → AlikeBut v (λ w. f (suc w)) (λ w. g (suc w))
+alike-behind v f g h w n = h (suc w) (λ e. n (suc-inj e))
+
+dot-off : (v : ℕ) (s : Sum) (f g : ℕ → ℤ) → AlikeBut v f g → dot (put v (pos 0) s) f ≡ dot (put v (pos 0) s) g
 unfolding dot put
 dot-off zero [] f g h = no-part (f 0) (g 0) (pos 0)
 dot-off zero (b ∷ s) f g h =
-    ap (λ k. pos 0 *ℤ f 0 +ℤ dot s k) (fun-ext (λ w. h (suc w) (suc-ne-zero w))) ∙ no-part (f 0) (g 0) (dot s (λ w. g (suc w)))
+    ap (λ k. pos 0 *ℤ f 0 +ℤ dot s k) (fun-ext (λ w. h (suc w) (suc-ne-zero w)))
+    ∙ no-part (f 0) (g 0) (dot s (λ w. g (suc w)))
 dot-off (suc v) [] f g h =
     ap (λ z. pos 0 *ℤ z +ℤ dot (put v (pos 0) []) (λ w. f (suc w))) (h 0 (λ e. suc-ne-zero v (sym e)))
-    ∙ ap (λ z. pos 0 *ℤ g 0 +ℤ z) (dot-off v [] (λ w. f (suc w)) (λ w. g (suc w)) (λ w n. h (suc w) (λ e. n (suc-inj e))))
+    ∙ ap (λ z. pos 0 *ℤ g 0 +ℤ z) (dot-off v [] (λ w. f (suc w)) (λ w. g (suc w)) (alike-behind v f g h))
 dot-off (suc v) (b ∷ s) f g h =
     ap (λ z. b *ℤ z +ℤ dot (put v (pos 0) s) (λ w. f (suc w))) (h 0 (λ e. suc-ne-zero v (sym e)))
-    ∙ ap (λ z. b *ℤ g 0 +ℤ z) (dot-off v s (λ w. f (suc w)) (λ w. g (suc w)) (λ w n. h (suc w) (λ e. n (suc-inj e))))
+    ∙ ap (λ z. b *ℤ g 0 +ℤ z) (dot-off v s (λ w. f (suc w)) (λ w. g (suc w)) (alike-behind v f g h))
 
 -- ---- values
 
@@ -108,10 +115,6 @@ value-negate s ρ = value-scale (negsuc 0) s ρ ∙ law (value s ρ)
   where
     law : (z : ℤ) → negsuc 0 *ℤ z ≡ negℤ z
     law = z1 _ (simp zz (omega arith))
-
-pub value-all-zero : (s : Sum) (ρ : Choice) → T (all-zero s) → value s ρ ≡ pos 0
-unfolding value
-value-all-zero s ρ t = dot-zero s (places ρ) t
 
 pub value-no-factors : (s : Sum) (ρ : Choice) → T (no-factors s) → value s ρ ≡ factor 0 s
 unfolding value dot no-factors
@@ -185,13 +188,16 @@ unfolding rest
 rest-scale x k s ρ = ap (λ (l : Sum). value l ρ) (put-scale x k s) ∙ value-scale k (put x (pos 0) s) ρ
 
 rest-number : (x : ℕ) (c : ℤ) (ρ : Choice) → 1 ≤ x → rest x (number c) ρ ≡ c
-rest-number x c ρ h = law (factor x (number c)) c (rest x (number c) ρ) (sym (value-number c (with x (pos 0) ρ)) ∙ value-with x (number c) (pos 0) ρ h)
+rest-number x c ρ h =
+    let at-zero = sym (value-number c (with x (pos 0) ρ)) ∙ value-with x (number c) (pos 0) ρ h in
+    law (factor x (number c)) c (rest x (number c) ρ) at-zero
   where
     law : (f c r : ℤ) → c ≡ f *ℤ pos 0 +ℤ r → r ≡ c
     law = z3 _ (simp zz (omega arith))
 
 -- a put for x's factor
-pub value-put : (x : ℕ) (a : ℤ) (s : Sum) (z : ℤ) (ρ : Choice) → 1 ≤ x → value (put x a s) (with x z ρ) ≡ a *ℤ z +ℤ rest x s ρ
+pub value-put : (x : ℕ) (a : ℤ) (s : Sum) (z : ℤ) (ρ : Choice) → 1 ≤ x
+    → value (put x a s) (with x z ρ) ≡ a *ℤ z +ℤ rest x s ρ
 unfolding rest
 value-put x a s z ρ h =
     value-with x (put x a s) z ρ h

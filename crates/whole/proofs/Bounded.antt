@@ -1,4 +1,4 @@
--- The least common multiple up to a limit: the answer that a greatest common divisor leads to, and that no other is right.
+-- The least common multiple up to a limit: the answer that a greatest common divisor leads to, and no other is right.
 -- Assumes nothing.
 use mathlib.Core.Path.{_≡_, refl, _∙_, ap, subst}
 use Prim.Native.Nat.{ℕ, _*_, _/_, _≤_, _<_}

@@ -4,7 +4,7 @@ use mathlib.Core.Path.{_≡_, subst, subst⁻¹}
 use Prim.Native.Nat.{ℕ, _+_, _*_, _/_, _%_}
 use native.Mathlib.Nat.{div-add-mod}
 use native.Mathlib.Omega.{arith}
-use lib.IntN.{ℤ, pos, negℤ, _+ℤ_, _*ℤ_}
+use lib.IntN.{pos, negℤ, _+ℤ_, _*ℤ_}
 use Rattle.whole.specs.Divides.{Divides}
 use Rattle.whole.specs.Multiples.{GreatestCommonDivisor}
 use Rattle.whole.proofs.Difference.{zz}

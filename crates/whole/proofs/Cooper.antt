@@ -1,14 +1,16 @@
--- Cooper's theorem apart from rules: G is what a body says of x, Far what it comes to far to the left, Bound its lower bounds,
--- P a period. The right-hand theorem is this one at −x.
+-- Cooper's theorem apart from rules: G is what a body says of x, Far what it comes to far to the left,
+-- Bound its lower bounds, P a period.
 -- Assumes nothing.
-use mathlib.Core.Path.{_≡_, refl, sym, _∙_, ap, subst}
+-- The right-hand theorem is this one at −x.
+use mathlib.Core.Path.{_≡_, sym, subst}
 use mathlib.Core.Logic.{_↔_, _⊎_, inl, inr, Iff·symm, Iff·trans}
 use Prim.Native.Nat.{ℕ, zero, suc, _+_, _*_, _-_, _≤_, _<_}
 use native.Mathlib.Nat.{mul-le-mul-left}
 use native.Mathlib.Omega.{arith}
-use lib.IntN.{ℤ, pos, negsuc, negℤ, _+ℤ_, _-ℤ_, _*ℤ_}
+use lib.IntN.{ℤ, pos, negsuc, _+ℤ_, _-ℤ_, _*ℤ_}
 use lib.Signed.{_≤ℤ_, _<ℤ_}
-use Rattle.whole.proofs.Difference.{zz, z1, z2, z3}
+use Rattle.whole.proofs.Lists.{at-equal}
+use Rattle.whole.proofs.Difference.{zz, z1, z2}
 use Rattle.whole.proofs.Linear.{zarith, U, dif}
 use Rattle.whole.proofs.Divisibility.{quotient-of, remainder, remainder-less, quotient-remainder}
 
@@ -46,9 +48,6 @@ one-step-more n P = z1 _ (simp zz (omega arith))
 there-and-back : (n : ℕ) (z : ℤ) → (z -ℤ pos n) +ℤ pos n ≡ z
 there-and-back n = z1 _ (simp zz (omega arith))
 
-at : {A B : ℤ} (F : ℤ → Type 0) → A ≡ B → F A ↔ F B
-at F e = (subst F e, subst F (sym e))
-
 module _ {G Far Bound : ℤ → Type 0} {P : ℕ} (c : Cooper G Far Bound P) where
   -- n periods down G still holds, or a bound was reached on the way
   down : (n : ℕ) (z : ℤ) → G (z +ℤ pos (n * P)) → ((y : ℤ) × Reached Bound P y × G y) ⊎ G z
@@ -58,29 +57,30 @@ module _ {G Far Bound : ℤ → Type 0} {P : ℕ} (c : Cooper G Far Bound P) whe
       elim (c .one-period-down (z +ℤ pos (n * P)) above) [ inl r ↦ inl (_, r, above) | inr g ↦ down n z g ]
 
   far-up : (n : ℕ) (z : ℤ) → Far z ↔ Far (z +ℤ pos (n * P))
-  far-up zero z = at Far (sym (no-steps P z))
+  far-up zero z = at-equal Far (sym (no-steps P z))
   far-up (suc n) z =
-      Iff·trans (far-up n z) (Iff·trans (c .periodic (z +ℤ pos (n * P))) (at Far (sym (one-step-more n P z))))
+      Iff·trans (far-up n z) (Iff·trans (c .periodic (z +ℤ pos (n * P))) (at-equal Far (sym (one-step-more n P z))))
 
   far-down : (n : ℕ) (z : ℤ) → Far z ↔ Far (z -ℤ pos (n * P))
-  far-down n z = Iff·trans (at Far (sym (there-and-back (n * P) z))) (Iff·symm (far-up n (z -ℤ pos (n * P))))
+  far-down n z = Iff·trans (at-equal Far (sym (there-and-back (n * P) z))) (Iff·symm (far-up n (z -ℤ pos (n * P))))
 
   -- every number is some periods away from one of 1 to P
   home : (z : ℤ) → Far z → UpTo P (λ j. Far (pos j))
   home z h =
-      let r : ℕ = remainder (z -ℤ pos 1) P in
-      let q : ℤ = quotient-of (z -ℤ pos 1) P in
-      (suc r, omega arith, remainder-less (c .positive) (z -ℤ pos 1), go q r (quotient-remainder (c .positive) (z -ℤ pos 1)))
+      let before : ℤ = z -ℤ pos 1 in
+      let r : ℕ = remainder before P in
+      let split = quotient-remainder (c .positive) before in
+      (suc r, omega arith, remainder-less (c .positive) before, by-periods (quotient-of before P) r split)
     where
-      up : (r n : ℕ) (z : ℤ) → z -ℤ pos 1 ≡ pos P *ℤ pos n +ℤ pos r → z -ℤ pos (n * P) ≡ pos (suc r)
-      up r n = z1 _ (simp zz (omega arith))
+      periods-down : (r n : ℕ) (z : ℤ) → z -ℤ pos 1 ≡ pos P *ℤ pos n +ℤ pos r → z -ℤ pos (n * P) ≡ pos (suc r)
+      periods-down r n = z1 _ (simp zz (omega arith))
 
-      down′ : (r n : ℕ) (z : ℤ) → z -ℤ pos 1 ≡ pos P *ℤ negsuc n +ℤ pos r → z +ℤ pos (suc n * P) ≡ pos (suc r)
-      down′ r n = z1 _ (simp zz (omega arith))
+      periods-up : (r n : ℕ) (z : ℤ) → z -ℤ pos 1 ≡ pos P *ℤ negsuc n +ℤ pos r → z +ℤ pos (suc n * P) ≡ pos (suc r)
+      periods-up r n = z1 _ (simp zz (omega arith))
 
-      go : (q : ℤ) (r : ℕ) → z -ℤ pos 1 ≡ pos P *ℤ q +ℤ pos r → Far (pos (suc r))
-      go (pos n) r e = subst Far (up r n z e) (far-down n z .0 h)
-      go (negsuc n) r e = subst Far (down′ r n z e) (far-up (suc n) z .0 h)
+      by-periods : (q : ℤ) (r : ℕ) → z -ℤ pos 1 ≡ pos P *ℤ q +ℤ pos r → Far (pos (suc r))
+      by-periods (pos n) r e = subst Far (periods-down r n z e) (far-down n z .0 h)
+      by-periods (negsuc n) r e = subst Far (periods-up r n z e) (far-up (suc n) z .0 h)
 
   pub cooper : ((z : ℤ) × G z) ↔ (UpTo P (λ j. Far (pos j)) ⊎ ((b : ℤ) × Bound b × UpTo P (λ j. G (b +ℤ pos j))))
   cooper = (λ w. search-down (w .0) (w .1), found)

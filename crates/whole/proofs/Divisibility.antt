@@ -1,15 +1,14 @@
--- Divisibility by a natural number: what it is closed under, scaling, the period, the remainder, and the test that decides it.
+-- Divisibility by a natural number: what it is closed under, scaling, the period, the remainder, and its test.
 -- Assumes nothing.
 use mathlib.Core.Path.{_≡_, refl, sym, _∙_, ap, subst, subst⁻¹}
 use mathlib.Core.Logic.{_↔_}
 use Prim.Native.Nat.{ℕ, zero, suc, _+_, _*_, _-_, _/_, _%_, _<_}
-use native.Mathlib.Nat.{mod-lt, div-add-mod, mul-mod-right, add-zero}
+use native.Mathlib.Nat.{mod-lt, div-add-mod, mul-mod-right}
 use native.Mathlib.Omega.{arith}
 use lib.Dec.{T, eqb, eqb→eq, eqb-refl}
 use lib.IntN.{ℤ, pos, negsuc, negℤ, negℤ-negℤ, natAbs, _+ℤ_, _-ℤ_, _*ℤ_}
 use Rattle.whole.specs.Divides.{Divides, divides}
-use Rattle.whole.proofs.Difference.{zz, z1, z2, z3, z5}
-use Rattle.whole.proofs.Ring.{rr, ring, r5}
+use Rattle.whole.proofs.Difference.{zz, z2, z3, z5}
 use Rattle.whole.proofs.Order.{*ℤ-assoc, *ℤ-≡, 1-*ℤ, *ℤ-neg}
 
 -- ---- what it is closed under
@@ -111,14 +110,20 @@ size-times k (pos b) = refl
 size-times k (negsuc b) = size-neg (pos (k * suc b))
 
 whole-quotient : (k n : ℕ) → n % k ≡ 0 → Divides k (pos n)
-whole-quotient k n e = record { quotient = pos (n / k); exact = ap pos (sym (div-add-mod n k) ∙ ap (λ (r : ℕ). k * (n / k) + r) e ∙ add-zero (k * (n / k))) }
+whole-quotient k n e = record { quotient = pos (n / k); exact = ap pos nothing-over }
+  where
+    nothing-over : n ≡ k * (n / k)
+    nothing-over = omega (arith, div-add-mod n k)
 
 by-test : (k : ℕ) (z : ℤ) → natAbs z % k ≡ 0 → Divides k z
 by-test k (pos n) e = whole-quotient k n e
 by-test k (negsuc n) e = divides-neg (whole-quotient k (suc n) e)
 
 pub divides-test : (k : ℕ) (z : ℤ) → T (divides k z) ↔ Divides k z
-divides-test k z = (λ t. by-test k z (eqb→eq (natAbs z % k) 0 t), λ d. subst⁻¹ (λ (m : ℕ). T (eqb m 0)) (none d) (eqb-refl 0))
+divides-test k z = (
+  λ t. by-test k z (eqb→eq (natAbs z % k) 0 t),
+  λ d. subst⁻¹ (λ (m : ℕ). T (eqb m 0)) (none d) (eqb-refl 0),
+)
   where
     none : Divides k z → natAbs z % k ≡ 0
     none d =

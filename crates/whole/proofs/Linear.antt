@@ -1,8 +1,8 @@
 -- Linear facts over ℤ in the middle of a proof: each integer x is U x − D x, and `omega` reasons about these naturals.
 -- Assumes nothing.
--- To use it: `omega (zarith, sum b p, dif x d)` proves a goal `≤ℤ`, `<ℤ` or `≡` from the hypotheses of this kind in reach.
--- Each compound term of the goal and of these hypotheses is listed once, from the outside in: `sum a b` for a +ℤ b,
--- `dif a b` for a -ℤ b, `neg a` for negℤ a, `mul c a` for pos c *ℤ a.
+-- To use it: `omega (zarith, sum b p, dif x d)` proves a goal `≤ℤ`, `<ℤ` or `≡` from the hypotheses of this kind
+-- in reach. Each compound term of the goal and of these hypotheses is listed once, from the outside in:
+-- `sum a b` for a +ℤ b, `dif a b` for a -ℤ b, `neg a` for negℤ a, `mul c a` for pos c *ℤ a.
 use mathlib.Core.Path.{_≡_, sym, _∙_, ap, ap₂, subst₂}
 use Prim.Native.Nat.{ℕ, suc, _+_, _*_, _≤_, _<_}
 use native.Mathlib.Omega.{arith}

@@ -1,6 +1,6 @@
--- Every element of a list, and some element of it.
+-- Every element of a list, some element of it, and two ways to equivalent statements.
 -- Assumes nothing.
-use mathlib.Core.Path.{_≡_, refl}
+use mathlib.Core.Path.{_≡_, refl, sym, subst}
 use mathlib.Core.Logic.{_↔_, _⊎_, inl, inr, Iff·rfl, Iff·trans}
 use mathlib.Core.List.{List, [], _∷_, _++_, map}
 
@@ -17,6 +17,9 @@ pub ⊎-iff : {A B C D : Type 0} → A ↔ C → B ↔ D → (A ⊎ B) ↔ (C �
   λ s. elim s [ inl a ↦ inl (h .0 a) | inr b ↦ inr (k .0 b) ],
   λ s. elim s [ inl c ↦ inl (h .1 c) | inr d ↦ inr (k .1 d) ],
 )
+
+pub at-equal : {A : Type 0} (Q : A → Type 0) {a b : A} → a ≡ b → Q a ↔ Q b
+at-equal Q e = (subst Q e, subst Q (sym e))
 
 module _ {A : Type 0} where
   pub all-imp : {P Q : A → Type 0} → ((a : A) → P a → Q a) → (l : List A) → All P l → All Q l

@@ -1,18 +1,20 @@
 -- gcd and lcm are what their names say, at every two numbers, and the lcm of a list is a multiple of each.
 -- Assumes nothing.
-use mathlib.Core.Path.{_≡_, refl, sym, _∙_, ap, ap₂, subst, subst⁻¹}
-use Prim.Native.Nat.{ℕ, zero, suc, _+_, _*_, _-_, _/_, _%_, _≤_, _<_}
-use native.Mathlib.Nat.{mod-lt, div-add-mod, mul-pos, zero-mul}
+use mathlib.Core.Path.{_≡_, refl, sym, _∙_, ap, ap₂, subst}
+use Prim.Native.Nat.{ℕ, zero, suc, _+_, _*_, _/_, _%_, _≤_, _<_}
+use native.Mathlib.Nat.{mod-lt, div-add-mod, mul-pos, zero-mul, mul-le-mul-left}
 use native.Mathlib.Omega.{arith}
 use mathlib.Core.List.{List, [], _∷_}
-use lib.IntN.{ℤ, pos, negsuc, negℤ, _+ℤ_, _-ℤ_, _*ℤ_}
+use lib.Dec.{eqb→eq}
+use lib.IntN.{ℤ, pos, _+ℤ_, _-ℤ_, _*ℤ_}
 use Rattle.whole.specs.Divides.{Divides}
 use Rattle.whole.specs.Multiples.{GreatestCommonDivisor, LeastCommonMultiple, euclid, gcd, lcm, lcms}
 use Rattle.whole.proofs.Difference.{zz, z1, z3, z4, z5}
 use Rattle.whole.proofs.Order.{*ℤ-≡}
 use Rattle.whole.proofs.Ring.{rr, ring, r4, r6}
 use Rattle.whole.proofs.Lists.{All, all-imp}
-use Rattle.whole.proofs.Divisibility.{divides-zero, divides-self, divides-times, divides-add, divides-mul, divides-trans, divides-test}
+use Rattle.whole.proofs.Divisibility.{divides-zero, divides-self, divides-times, divides-add}
+use Rattle.whole.proofs.Divisibility.{divides-mul, divides-trans, divides-test}
 
 -- ---- the greatest common divisor
 
@@ -25,7 +27,13 @@ pub record Bezout (a b g : ℕ) : Type 0 where
   pub combined : pos g ≡ pos a *ℤ s +ℤ pos b *ℤ t
 
 with-zero : (a : ℕ) → Bezout a 0 a
-with-zero a = record { left = divides-self; right = divides-zero; s = pos 1; t = pos 0; combined = ap pos (omega arith) }
+with-zero a = record {
+  left = divides-self;
+  right = divides-zero;
+  s = pos 1;
+  t = pos 0;
+  combined = ap pos (omega arith);
+}
 
 -- one round: a = b·d + r
 pub bezout-step : (a b d r g : ℕ) → b * d + r ≡ a → Bezout b r g → Bezout a b g
@@ -34,7 +42,10 @@ bezout-step a b d r g e i = record {
   right = i .left;
   s = i .t;
   t = i .s -ℤ pos d *ℤ i .t;
-  combined = i .combined ∙ law (pos b) (pos d) (pos r) (i .s) (i .t) ∙ ap (λ n. pos n *ℤ i .t +ℤ pos b *ℤ (i .s -ℤ pos d *ℤ i .t)) e;
+  combined =
+      i .combined
+      ∙ law (pos b) (pos d) (pos r) (i .s) (i .t)
+      ∙ ap (λ n. pos n *ℤ i .t +ℤ pos b *ℤ (i .s -ℤ pos d *ℤ i .t)) e;
 }
   where
     turned : d * b + r ≡ a
@@ -51,7 +62,8 @@ euclid-bezout zero a b h = subst (λ n. Bezout a n a) none (with-zero a)
     none = omega arith
 euclid-bezout (suc f) a zero h = with-zero a
 euclid-bezout (suc f) a (suc b) h =
-    bezout-step a (suc b) (a / suc b) (a % suc b) _ (div-add-mod a (suc b)) (euclid-bezout f (suc b) (a % suc b) (below f a b h))
+    let rest : ℕ = a % suc b in
+    bezout-step a (suc b) (a / suc b) rest _ (div-add-mod a (suc b)) (euclid-bezout f (suc b) rest (below f a b h))
   where
     below : (f a b : ℕ) → suc b ≤ suc f → a % suc b ≤ f
     below f a b h = let k : a % suc b < suc b = mod-lt a (omega arith) in omega arith
@@ -64,11 +76,14 @@ pub bezout-greatest : {a b g : ℕ} → Bezout a b g → GreatestCommonDivisor a
 bezout-greatest {a} {b} {g} i = record {
   left = i .left;
   right = i .right;
-  greatest = λ d h k. subst (Divides d) (law (pos a) (pos b) (i .s) (i .t) ∙ sym (i .combined)) (divides-add (divides-mul (i .s) h) (divides-mul (i .t) k));
+  greatest = λ d h k. subst (Divides d) sums-to-g (divides-add (divides-mul (i .s) h) (divides-mul (i .t) k));
 }
   where
     law : (a b s t : ℤ) → s *ℤ a +ℤ t *ℤ b ≡ a *ℤ s +ℤ b *ℤ t
     law = z4 _ (simp zz (omega arith))
+
+    sums-to-g : i .s *ℤ pos a +ℤ i .t *ℤ pos b ≡ pos g
+    sums-to-g = law (pos a) (pos b) (i .s) (i .t) ∙ sym (i .combined)
 
 pub gcd-is : (a b : ℕ) → GreatestCommonDivisor a b (gcd a b)
 gcd-is a b = bezout-greatest (gcd-bezout a b)
@@ -85,7 +100,7 @@ zero-divides b h = law b (h .quotient) (h .exact)
 pub quotient-exact : (g b : ℕ) → Divides g (pos b) → b ≡ g * (b / g)
 quotient-exact zero b h = let e : b ≡ 0 = zero-divides b h in omega arith
 quotient-exact (suc g) b h =
-    let e : b % suc g ≡ 0 = lib.Dec.eqb→eq (b % suc g) 0 (divides-test (suc g) (pos b) .1 h) in
+    let e : b % suc g ≡ 0 = eqb→eq (b % suc g) 0 (divides-test (suc g) (pos b) .1 h) in
     omega (arith, div-add-mod b (suc g))
 
 -- a factor of a positive number is positive
@@ -100,14 +115,17 @@ quotient-pos {g} {n} h d = factor-pos n g (n / g) h (quotient-exact g n d)
 pub divides-antisym : (a b : ℕ) → Divides a (pos b) → Divides b (pos a) → a ≡ b
 divides-antisym zero b h k = sym (zero-divides b h)
 divides-antisym (suc a) zero h k = zero-divides (suc a) k
-divides-antisym (suc a) (suc b) h k = let p : suc b ≤ suc a = at-most k in let q : suc a ≤ suc b = at-most h in omega arith
+divides-antisym (suc a) (suc b) h k = omega (arith, at-most h, at-most k)
   where
     at-most : {g n : ℕ} → Divides g (pos (suc n)) → g ≤ suc n
     at-most {g} {n} d =
-        omega (arith, quotient-exact g (suc n) d, native.Mathlib.Nat.mul-le-mul-left g (quotient-pos {n = suc n} (omega arith) d))
+        let some : 0 < suc n / g = quotient-pos (omega arith) d in
+        omega (arith, quotient-exact g (suc n) d, mul-le-mul-left g some)
 
 pub gcd-unique : {a b g h : ℕ} → GreatestCommonDivisor a b g → GreatestCommonDivisor a b h → g ≡ h
-gcd-unique {a} {b} {g} {h} p q = divides-antisym g h (q .greatest g (p .left) (p .right)) (p .greatest h (q .left) (q .right))
+gcd-unique {g} {h} first second = divides-antisym g h
+    (second .greatest g (first .left) (first .right))
+    (first .greatest h (second .left) (second .right))
 
 -- ---- the least common multiple
 
@@ -116,7 +134,10 @@ module _ {a b g : ℕ} (y : ℕ) (e : b ≡ g * y) (i : Bezout a b g) where
   multiple-right : Divides b (pos (a * y))
   multiple-right = record {
     quotient = i .left .quotient;
-    exact = ap (λ w. w *ℤ pos y) (i .left .exact) ∙ law (pos g) (i .left .quotient) (pos y) ∙ ap (λ n. pos n *ℤ i .left .quotient) (sym e);
+    exact =
+        ap (λ w. w *ℤ pos y) (i .left .exact)
+        ∙ law (pos g) (i .left .quotient) (pos y)
+        ∙ ap (λ n. pos n *ℤ i .left .quotient) (sym e);
   }
     where
       law : (g x y : ℤ) → (g *ℤ x) *ℤ y ≡ (g *ℤ y) *ℤ x
@@ -130,7 +151,10 @@ least-multiple {a} {b} {z} zero y e i h k = record {
   where
     a-zero : a ≡ 0
     a-zero = zero-divides a (i .left)
-least-multiple {a} {b} {z} (suc g) y e i h k = record { quotient = w; exact = *ℤ-≡ {m = suc g} (omega arith) z (pos (a * y) *ℤ w) .0 chain }
+least-multiple {a} {b} {z} (suc g) y e i h k = record {
+  quotient = w;
+  exact = *ℤ-≡ {m = suc g} (omega arith) z (pos (a * y) *ℤ w) .0 chain;
+}
   where
     w : ℤ
     w = i .s *ℤ k .quotient +ℤ i .t *ℤ h .quotient
@@ -164,7 +188,9 @@ lcm-is a b =
     }
 
 pub lcm-unique : {a b m n : ℕ} → LeastCommonMultiple a b m → LeastCommonMultiple a b n → m ≡ n
-lcm-unique {a} {b} {m} {n} p q = divides-antisym m n (p .least n (q .left) (q .right)) (q .least m (p .left) (p .right))
+lcm-unique {m} {n} first second = divides-antisym m n
+    (first .least n (second .left) (second .right))
+    (second .least m (first .left) (first .right))
 
 pub lcm-pos : {a b : ℕ} → 0 < a → 0 < b → 0 < lcm a b
 unfolding lcm

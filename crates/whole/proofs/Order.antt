@@ -5,8 +5,8 @@
 use mathlib.Core.Path.{_≡_, refl, ap, subst, subst⁻¹}
 use mathlib.Core.Logic.{_↔_, _⊎_, inl, inr}
 use Prim.Native.Nat.{ℕ, _+_, _*_, _-_, _<_}
-use native.Mathlib.Nat.{mul-le-mul-left, mul-lt-mul-of-pos-left, le-of-mul-le-mul-left, lt-of-mul-lt-mul-left}
-use native.Mathlib.Nat.{eq-of-mul-eq-mul-left}
+use native.Mathlib.Nat.{mul-le-mul-left, mul-lt-mul-of-pos-left, le-of-mul-le-mul-left}
+use native.Mathlib.Nat.{lt-of-mul-lt-mul-left, eq-of-mul-eq-mul-left}
 use native.Mathlib.Omega.{arith}
 use mathlib.Core.Bool.{Bool, true, false}
 use lib.Dec.{T, ltb→lt}

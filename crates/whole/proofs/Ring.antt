@@ -1,8 +1,8 @@
 -- A solver for equations that hold in every commutative ring, over ℤ: both sides are brought into one normal form.
 -- Assumes nothing.
--- To use it: `law = r3 _ (simp rr (ring refl))` proves `(a b c : ℤ) → left ≡ right`, and r1 to r8 laws of as many integers.
--- r3 puts `⟦ var i ⟧ ρ` for each, the rules rr gather each side into one `⟦ e ⟧ ρ`, and `ring refl` compares the two normal
--- forms. For an equation of low degree, or a law with conditions, Difference is as short.
+-- To use it: `law = r3 _ (simp rr (ring refl))` proves `(a b c : ℤ) → left ≡ right`, and r1 to r8 laws of as many
+-- integers. r3 puts `⟦ var i ⟧ ρ` for each, the rules rr gather each side into one `⟦ e ⟧ ρ`, and `ring refl` compares
+-- the two normal forms. For an equation of low degree, or a law with conditions, Difference is as short.
 use mathlib.Core.Path.{_≡_, refl, sym, _∙_, ap, ap₂}
 use mathlib.Core.Logic.{_↔_}
 use Prim.Native.Nat.{ℕ, zero, suc}

@@ -1,9 +1,8 @@
--- What a test that passed says: conjunctions, negations, equality of integers, and a choice made by a test.
+-- What a test that passed says: joined tests, negations, equality of integers, and a choice made by a test.
 -- Assumes nothing.
 use mathlib.Core.Path.{_≡_, ap, subst}
 use mathlib.Core.Logic.{_↔_, _⊎_, inl, inr}
 use mathlib.Core.Bool.{Bool, true, false, not, _&&_, _||_, cond}
-use Prim.Native.Nat.{ℕ}
 use lib.Dec.{T, T-not, not-T, eqb→eq, eqb-refl}
 use lib.IntN.{ℤ, pos, negsuc}
 use Rattle.whole.specs.Integers.{eqZ}
@@ -19,12 +18,21 @@ T-or false b = (λ t. inr t, λ h. elim h [ inl k ↦ absurd k | inr k ↦ k ])
 pub T-no : (a : Bool) → T (not a) ↔ (¬ T a)
 T-no a = (T-not a, not-T a)
 
+pub not-or : (a b : Bool) → T (not (a || b)) → T (not a) × T (not b)
+not-or true b h = absurd h
+not-or false b h = (tt, h)
+
+pub not-not : (a : Bool) → T (not (not a)) → T a
+not-not true h = tt
+not-not false h = h
+
 pub T-dec : (b : Bool) → Dec (T b)
 T-dec true = yes tt
 T-dec false = no (λ h. h)
 
 -- a choice by a test, with what the test said
-pub cond-ind {ℓ ℓ′} : {A : Type ℓ} (c : Bool) (x y : A) (P : A → Type ℓ′) → (T c → P x) → (T (not c) → P y) → P (cond c x y)
+pub cond-ind {ℓ₁ ℓ₂} : {A : Type ℓ₁} (c : Bool) (x y : A) (P : A → Type ℓ₂)
+    → (T c → P x) → (T (not c) → P y) → P (cond c x y)
 cond-ind true x y P f g = f tt
 cond-ind false x y P f g = g tt
 
