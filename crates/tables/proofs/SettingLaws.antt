@@ -35,7 +35,8 @@ no-settings = set-of 0 (λ v. false) (omega arith) refl refl refl refl refl refl
 
 pub one-setting : (v : ℕ) → 1 ≤ v → v ≤ 6 → IsSet (2 ^ (v - 1)) (λ w. eqb w v)
 one-setting =
-    six (λ v. IsSet (2 ^ (v - 1)) (λ w. eqb w v)) (set-of 1 (λ w. eqb w 1) (omega arith) refl refl refl refl refl refl)
+    six (λ v. IsSet (2 ^ (v - 1)) (λ w. eqb w v))
+    (set-of 1 (λ w. eqb w 1) (omega arith) refl refl refl refl refl refl)
     (set-of 2 (λ w. eqb w 2) (omega arith) refl refl refl refl refl refl)
     (set-of 4 (λ w. eqb w 3) (omega arith) refl refl refl refl refl refl)
     (set-of 8 (λ w. eqb w 4) (omega arith) refl refl refl refl refl refl)
@@ -84,13 +85,13 @@ bit-part zero n h = omega arith
 bit-part (suc zero) n h = omega arith
 bit-part (suc (suc d)) n h = absurd (omega arith)
 
--- the lowest bit of what stands from n on, and the rest
-lowest : (s n : ℕ) → s / n * n ≡ cond (eqb (s / n % 2) 1) n 0 + s / (n * 2) * (n * 2)
-lowest s n =
+-- what stands from bit n on is that bit and the rest
+lowest : (s n : ℕ) (b : Bool) → eqb (s / n % 2) 1 ≡ b → s / n * n ≡ cond b n 0 + s / (n * 2) * (n * 2)
+lowest s n b e =
     let q = s / n in
+    let rest = mul-assoc (q / 2) 2 n ∙ ap₂ _*_ (div-div-eq-div-mul s n 2) (mul-comm 2 n) in
     ap (λ (x : ℕ). x * n) (sym (mod-add-div' q 2)) ∙ add-mul (q % 2) (q / 2 * 2) n
-    ∙ ap₂ _+_ (bit-part (q % 2) n (omega arith))
-    (mul-assoc (q / 2) 2 n ∙ ap₂ _*_ (div-div-eq-div-mul s n 2) (mul-comm 2 n))
+    ∙ ap₂ _+_ (bit-part (q % 2) n (omega arith) ∙ ap (λ (c : Bool). cond c n 0) e) rest
 
 sum-of : (ℕ → Bool) → ℕ
 sum-of p =
@@ -100,16 +101,13 @@ sum-of p =
 set-sum : (s : ℕ) (p : ℕ → Bool) → IsSet s p → s ≡ sum-of p
 unfolding sum-of
 set-sum s p i =
-    let from : (v : ℕ) → 1 ≤ v → v ≤ 6 → s / 2 ^ (v - 1) * 2 ^ (v - 1)
-    ≡ cond (p v) (2 ^ (v - 1)) 0 + s / (2 ^ (v - 1) * 2) * (2 ^ (v - 1) * 2) = λ v h k.
-    lowest s (2 ^ (v - 1))
-    ∙ ap (λ (b : Bool). cond b (2 ^ (v - 1)) 0 + s / (2 ^ (v - 1) * 2) * (2 ^ (v - 1) * 2)) (i .each v h k) in
     let whole : s ≡ s / 1 * 1 = omega arith in
     let none : s / 64 * 64 ≡ 0 = omega (arith, i .small) in
     whole
-    ∙ adds _ _ _ _ _ _ (from 1 (omega arith) (omega arith)) (from 2 (omega arith) (omega arith))
-    (from 3 (omega arith) (omega arith)) (from 4 (omega arith) (omega arith)) (from 5 (omega arith) (omega arith))
-    (from 6 (omega arith) (omega arith)) none
+    ∙ adds _ _ _ _ _ _ (lowest s 1 _ (i .each 1 (omega arith) (omega arith)))
+    (lowest s 2 _ (i .each 2 (omega arith) (omega arith))) (lowest s 4 _ (i .each 3 (omega arith) (omega arith)))
+    (lowest s 8 _ (i .each 4 (omega arith) (omega arith))) (lowest s 16 _ (i .each 5 (omega arith) (omega arith)))
+    (lowest s 32 _ (i .each 6 (omega arith) (omega arith))) none
   where
     adds : (x1 x2 x3 x4 x5 x6 : ℕ) {a b c d e f g : ℕ} → a ≡ x1 + b → b ≡ x2 + c → c ≡ x3 + d → d ≡ x4 + e → e ≡ x5 + f
         → f ≡ x6 + g → g ≡ 0 → a ≡ x1 + (x2 + (x3 + (x4 + (x5 + (x6 + 0)))))

@@ -110,7 +110,7 @@ words-put l m i u v f h e p =
     let q = p ∙ ap (λ (u : ℕ). sets l (i * 4) (bytes-of-bits u)) e in
     (ap words q ∙ words-set l i v f h, q)
 
--- it leaves the bytes before word i and those after it, and their number
+-- it leaves the bytes before word i and those after it (that their number stays is lib.Seq's `length-sets`)
 pub put-before : (l : List ℕ) (i k : ℕ) (v : ℤ) → k ≤ i * 4
     → take k (sets l (i * 4) (bytes-of (v ∷ []))) ≡ take k l
 unfolding bytes-of
