@@ -5,8 +5,7 @@ use mathlib.Core.Bool.{Bool, true, false}
 use mathlib.Core.List.{List, [], _∷_, _++_, append-assoc, append-nil}
 use Prim.Native.Nat.{ℕ, zero, suc, _+_, _≤_}
 use native.Mathlib.Omega.{arith}
-use lib.Dec.{T}
-use lib.IntN.{ℤ, pos}
+use lib.IntN.{pos}
 use lib.ListN.{length, drop}
 use lib.Seq.{drop-append-seam}
 use Rattle.whole.specs.Integers.{eqZ}
@@ -14,10 +13,10 @@ use Rattle.rules.specs.Rule.{Rule, Constant, Join, Not, Literal, Bind}
 use Rattle.rules.specs.Result.{Result, refused, given, _>>=_, require}
 use Rattle.rules.specs.Table.{Node, constant-node, join-node, not-node, literal-node, bind-node, count, nodes}
 use Rattle.rules.specs.Decode.{before, trees, only-tree}
-use Rattle.rules.proofs.Refusals.{then, parts, never}
+use Rattle.rules.proofs.Refusals.{then, parts}
 use Rattle.rules.proofs.Sizes.{count-pos, length-nodes}
 use Rattle.rules.proofs.Encoding.{trees-nodes}
-use Rattle.rules.proofs.Decoding.{nodes-of, trees-forth, only-forth}
+use Rattle.rules.proofs.Decoding.{trees-forth, only-forth}
 
 -- ---- the verdict
 

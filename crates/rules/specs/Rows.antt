@@ -2,15 +2,15 @@
 -- Assumes nothing.
 use mathlib.Core.Bool.{Bool, true, false, _&&_}
 use mathlib.Core.List.{List, [], _∷_, map, zipWith}
-use Prim.Native.Nat.{ℕ, zero, suc, _*_, _-_, pred}
+use Prim.Native.Nat.{ℕ, zero, suc, _*_, pred}
 use lib.Dec.{eqb}
 use lib.IntN.{ℤ, pos, negsuc, _+ℤ_, _-ℤ_, _*ℤ_}
 use lib.ListN.{length}
 use Rattle.rules.specs.Sum.{Sum}
-use Rattle.rules.specs.Rule.{Quantifier, Test, positive, divisible, is-zero, Rule, Literal, Some}
+use Rattle.rules.specs.Rule.{positive, divisible, is-zero, Rule, Literal, Some}
 use Rattle.rules.specs.Result.{Result, refused, given, _>>=_}
 use Rattle.rules.specs.Table.{encode}
-use Rattle.rules.specs.Chosen.{Chosen, nothing, the, chosen}
+use Rattle.rules.specs.Chosen.{nothing, the, chosen}
 use Rattle.rules.specs.Steps.{common-factor, period}
 use Rattle.rules.specs.Eliminate.{step-table, for-all-step, normal-step, common-step}
 use Rattle.rules.specs.Answer.{Answer}
