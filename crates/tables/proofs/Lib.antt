@@ -3,3 +3,4 @@ pub mod SignedBits
 pub mod SettingLaws
 pub mod Standings
 pub mod TreeLaws
+pub mod CheckLaws

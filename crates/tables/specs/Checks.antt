@@ -2,12 +2,13 @@
 -- Assumes nothing.
 use mathlib.Core.Path.{_≡_}
 use mathlib.Core.List.{List, [], _∷_, _++_}
-use Prim.Native.Nat.{ℕ, _+_, _≤_}
+use Prim.Native.Nat.{ℕ, _+_, _-_}
 use lib.IntN.{ℤ}
-use lib.ListN.{length}
+use lib.ListN.{length, take, drop}
 use Rattle.rules.specs.Rule.{Rule}
 use Rattle.rules.specs.Result.{Result, refused, given}
 use Rattle.rules.specs.Table.{Node, count, nodes, bodies}
+use Rattle.rules.specs.Decode.{read}
 use Rattle.rules.proofs.Sizes.{weight}
 use Rattle.rules.proofs.Encoding.{AllGood}
 use Rattle.tables.specs.declared.check.Tree.{Tree}
@@ -39,3 +40,12 @@ TreeAt bs n left v = (ds : List Node) → bs ≡ bodies n ds → length ds ≡ l
 unfoldable pub Judged : {A : Type 0} → Result A → Checked → Type 0
 Judged {A} x (Table n) = (a : A) × (x ≡ given a)
 Judged x (Not k) = x ≡ refused k
+
+-- the nodes of the table W from node i and place p on: their entries, and the words from p
+abbrev pub rest : List ℤ → ℕ → ℕ → ℕ → Result (List Node)
+rest W n i p = read i (take (n - i) (drop (i + 1) W)) p (drop p W)
+
+-- a rule of n nodes is given, or the bytes are refused by this number
+unfoldable pub Verdict : Result Rule → Checked → Type 0
+Verdict x (Table n) = (r : Rule) × (x ≡ given r) × (n ≡ count r)
+Verdict x (Not k) = x ≡ refused k
