@@ -4,3 +4,4 @@ pub mod SettingLaws
 pub mod Standings
 pub mod TreeLaws
 pub mod CheckLaws
+pub mod TreeSteps
