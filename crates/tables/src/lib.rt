@@ -1,2 +1,3 @@
 // Tables in lent bytes.
+pub mod reading;
 pub mod words;
