@@ -41,10 +41,10 @@ cut-forth n (suc m) (w ∷ ws) p e =
     subst (Cut (suc m) (w ∷ ws)) (given-inj (c .2)) (ap (λ (l : List ℤ). w ∷ l) (k .0), ap suc (k .1))
 
 -- the words ws are a number that passes the test and the words after it
-abbrev Checked : (ℤ → Bool) → List ℤ → ℕ × List ℤ → Type 0
+abbrev pub Checked : (ℤ → Bool) → List ℤ → ℕ × List ℤ → Type 0
 Checked test ws p = (ws ≡ pos (p .0) ∷ p .1) × T (test (pos (p .0)))
 
-checked-forth : (test : ℤ → Bool) → ((n : ℕ) → ¬ T (test (negsuc n)))
+pub checked-forth : (test : ℤ → Bool) → ((n : ℕ) → ¬ T (test (negsuc n)))
     → (ws : List ℤ) (p : ℕ × List ℤ) → checked test ws ≡ given p → Checked test ws p
 unfolding checked
 checked-forth test h [] p e = never e

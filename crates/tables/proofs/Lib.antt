@@ -2,6 +2,8 @@ pub mod WordLaws
 pub mod SignedBits
 pub mod SettingLaws
 pub mod Standings
+pub mod Fields
+pub mod KindLaws
 pub mod TreeLaws
-pub mod CheckLaws
 pub mod TreeSteps
+pub mod CheckLaws

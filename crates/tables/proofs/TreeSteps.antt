@@ -17,6 +17,7 @@ use Rattle.rules.specs.Calls.{signed}
 use Rattle.rules.proofs.Sizes.{words, weight, total, length-body, length-bodies, length-nodes, total-nodes, weight-is, before-sum}
 use Rattle.rules.proofs.Encoding.{Good, AllGood, good-nodes}
 use Rattle.rules.proofs.Trees.{arity}
+use Rattle.tables.specs.Reads.{widths, kind-of}
 use Rattle.tables.specs.Checks.{arities, Listed, TreeOf, TreeAt}
 use Rattle.tables.specs.declared.check.Tree.{Tree}
 use Rattle.tables.specs.declared.check.Tree.the-variants.{Ends, Broken}
@@ -24,33 +25,17 @@ use Rattle.tables.proofs.WordLaws.{number-of, signed-low}
 use Rattle.tables.proofs.TreeLaws.{none-left, a-leaf, one-ends, one-broken, after-left, left-broken, wrong-child, right-broken, two-end}
 use Rattle.tables.proofs.Standings.{bodies-append}
 
-abbrev widths : List ℕ
-widths = 1 ∷ 1 ∷ 2 ∷ 2 ∷ 1 ∷ 8 ∷ 9 ∷ 9 ∷ 2 ∷ 2 ∷ 8 ∷ []
-
 -- ---- the kind of a node
-
-kind : Node → ℕ
-kind (constant-node false) = 0
-kind (constant-node true) = 1
-kind (join-node and right) = 2
-kind (join-node or right) = 3
-kind not-node = 4
-kind (literal-node positive s) = 5
-kind (literal-node (divisible true k) s) = 6
-kind (literal-node (divisible false k) s) = 7
-kind (literal-node is-zero s) = 10
-kind (bind-node for-some v) = 8
-kind (bind-node for-all v) = 9
 
 -- what the kind says: it is the first word, and gives the number of words and of children
 record Kinds (d : Node) : Type 0 where
-  first : (i : ℕ) → getD (body i d) 0 (pos 0) ≡ pos (kind d)
-  wide : getD widths (kind d) 0 ≡ words d
-  children : getD arities (kind d) 0 ≡ arity d
+  first : (i : ℕ) → getD (body i d) 0 (pos 0) ≡ pos (kind-of d)
+  wide : getD widths (kind-of d) 0 ≡ words d
+  children : getD arities (kind-of d) 0 ≡ arity d
   some : 0 < words d
 
 kinds : (d : Node) → Good d → Kinds d
-unfolding kind body words arity before-sum Good
+unfolding kind-of body words arity before-sum Good
 kinds (constant-node false) g = record { first = λ i. refl; wide = refl; children = refl; some = omega arith }
 kinds (constant-node true) g = record { first = λ i. refl; wide = refl; children = refl; some = omega arith }
 kinds (join-node and right) g = record { first = λ i. refl; wide = refl; children = refl; some = omega arith }
@@ -81,10 +66,10 @@ unfolding bodies AllGood
 rooted bs n left k [] e h b l g = absurd (omega arith)
 rooted bs n left k (d ∷ ds) e h b l g =
     let c : Kinds d = kinds d (g .0) in
-    let start : getD bs 0 (pos 0) ≡ pos (kind d) =
+    let start : getD bs 0 (pos 0) ≡ pos (kind-of d) =
       ap (λ (ws : List ℤ). getD ws 0 (pos 0)) b
       ∙ List·getD-append (body n d) (bodies (n + 1) ds) (pos 0) 0 (omega (arith, length-body n d, c .some)) ∙ c .first n in
-    let same : k ≡ kind d = number-of k (kind d) (sym e ∙ start) in
+    let same : k ≡ kind-of d = number-of k (kind-of d) (sym e ∙ start) in
     record {
       root = d;
       after = ds;

@@ -1,4 +1,5 @@
 pub mod WordBytes
 pub mod Settings
 pub mod Standing
+pub mod Reads
 pub mod Checks

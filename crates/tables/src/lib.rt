@@ -1,4 +1,5 @@
 // A rule's table in lent bytes.
 pub mod check;
+pub mod reading;
 pub mod settings;
 pub mod words;
