@@ -1,7 +1,7 @@
 -- The verdict on a table, step by step: node by node, then the end, then the tree.
 -- Assumes nothing.
 use mathlib.Core.Path.{_≡_, refl, sym, _∙_, ap, subst}
-use mathlib.Core.Bool.{Bool, true, false, not, _&&_}
+use mathlib.Core.Bool.{Bool, true, false, _&&_}
 use mathlib.Core.Logic.{_⊎_, inl, inr}
 use mathlib.Core.List.{List, [], _∷_, _++_, append-nil}
 use Prim.Native.Nat.{ℕ, zero, suc, _+_, _-_, _%_, _<_, _≤_}
@@ -23,10 +23,11 @@ use Rattle.rules.proofs.Sizes.{length-nodes, length-starts}
 use Rattle.rules.proofs.Encoding.{AllGood}
 use Rattle.rules.proofs.Decoding.{Written, read-forth}
 use Rattle.rules.proofs.Trees.{tree-given, tree-refused, count-unique}
-use Rattle.tables.specs.Checks.{rest, TreeOf, Verdict}
+use Rattle.tables.specs.Reads.{NodeRead}
+use Rattle.tables.specs.Checks.{rest, TreeOf, Judged, Verdict}
 use Rattle.tables.specs.declared.check.Tree.the-variants.{Ends, Broken}
-use Rattle.tables.specs.declared.check.Checked.the-variants.{Table}
-use Rattle.tables.proofs.WordLaws.{number-of, signed-low}
+use Rattle.tables.specs.declared.check.Checked.the-variants.{Table, Not}
+use Rattle.tables.proofs.WordLaws.{number-of, number-is, signed-low}
 
 -- ---- a result's verdict carried to another's
 
@@ -107,6 +108,39 @@ before-the-end W n i p h l =
     ap (λ (es : List ℤ). read i es p (drop p W)) (none-left W n i h)
     ∙ ap (read i [] p) (drop-cons W p (pos 0) l) ∙ unfold read in refl
 
+-- ---- the loop over the nodes: each way out of it, and the next turn
+
+pub still-inside : (W : List ℤ) (p : ℕ) {ws : List ℤ} {i k next : ℕ} → p ≤ length W → ws ≡ drop p W → NodeRead ws p i k next
+    → next ≤ length W
+still-inside W p h at d = omega (arith, d .inside, d .ends, ap length at, length-drop p W)
+
+module _ {A : Type 0} (W : List ℤ) (n i p : ℕ) (x : Result A) (c : Carries (rest W n i p) x) where
+  pub entry-refused : (r : ℕ) → i < n → n < length W → getD W (i + 1) (pos 0) ≡ signed r → ¬ (r ≡ p) → Judged x (Not 2)
+  unfolding Judged
+  entry-refused r h l e f = c .refusal 2 (wrong-entry W n i p h l (λ k. f (number-of r p (sym e ∙ k))))
+
+  pub body-refused : (r k : ℕ) (ws : List ℤ) → i < n → n < length W → getD W (i + 1) (pos 0) ≡ signed r → r ≡ p → p < 2147483648
+      → ws ≡ drop p W → node i ws ≡ refused k → Judged x (Not k)
+  unfolding Judged
+  body-refused r k ws h l e same low at f =
+      c .refusal k (bad-body W n i p h l k (e ∙ number-is r p low same) (ap (node i) (sym at) ∙ f))
+
+  pub node-passed : (r k next : ℕ) (ws : List ℤ) → i < n → n < length W → getD W (i + 1) (pos 0) ≡ signed r → r ≡ p → p < 2147483648
+      → ws ≡ drop p W → NodeRead ws p i k next → Carries (rest W n (i + 1) next) x
+  node-passed r k next ws h l e same low at d =
+      let reads : node i (drop p W) ≡ given (d .it, drop (width (d .it)) (drop p W)) =
+      subst (λ (vs : List ℤ). node i vs ≡ given (d .it, drop (width (d .it)) vs)) at (d .reads) in
+      subst (λ (m : ℕ). Carries (rest W n (i + 1) m) x) (sym (d .ends))
+      (carries-trans (next-node W n i p h l (d .it) (e ∙ number-is r p low same) reads) c)
+
+  pub all-passed : n ≤ i → p ≡ length W → Judged x (Table n)
+  unfolding Judged
+  all-passed h e = c .whole [] (at-the-end W n i p h e)
+
+  pub end-refused : n ≤ i → p ≤ length W → ¬ (p ≡ length W) → Judged x (Not 2)
+  unfolding Judged
+  end-refused h l f = c .refusal 2 (before-the-end W n i p h (omega arith))
+
 -- ---- the table
 
 cut-is : (k n : ℕ) (ws : List ℤ) → n ≤ length ws → cut k n ws ≡ given (take n ws, drop n ws)
@@ -146,36 +180,55 @@ whole-words : (l : List ℕ) → length l % 4 ≡ 0 → rule-of l ≡ decode (wo
 unfolding rule-of
 whole-words l e = then _ (passed (eqb (length l % 4) 0) 1 (subst (λ (m : ℕ). T (eqb m 0)) (sym e) tt))
 
-decode-first : (w : ℤ) (ws : List ℤ) (n : ℕ) → w ≡ signed n → (most-words < suc (length ws)) ⊎ ((n < 1) ⊎ (length ws < n)) → decode (w ∷ ws) ≡ refused 1
+-- the tests of the first word fail
+test-first : (k : ℕ) (ws : List ℤ) → ¬ T (leb (suc (length ws)) most-words && leb 1 k) → decode (pos k ∷ ws) ≡ refused 1
 unfolding decode
-decode-first (negsuc k) ws n e h = refl
-decode-first (pos k) ws n e (inl h) = if-refused _ (test-fails (leb (suc (length ws)) most-words && leb 1 k) 1 (λ t. absurd (omega (arith, leb→le (suc (length ws)) most-words (T-and (leb (suc (length ws)) most-words) (leb 1 k) .0 t .0)))))
-decode-first (pos k) ws n e (inr h) = go (T-dec (leb (suc (length ws)) most-words && leb 1 k)) h
+test-first k ws f = if-refused _ (test-fails (leb (suc (length ws)) most-words && leb 1 k) 1 f)
+
+too-long : (w : ℤ) (ws : List ℤ) → most-words < suc (length ws) → decode (w ∷ ws) ≡ refused 1
+too-long (negsuc k) ws h = unfold decode in refl
+too-long (pos k) ws h = test-first k ws (λ t. absurd (omega (arith, leb→le (suc (length ws)) most-words (both t .0))))
+  where
+    both : T (leb (suc (length ws)) most-words && leb 1 k) → T (leb (suc (length ws)) most-words) × T (leb 1 k)
+    both = T-and (leb (suc (length ws)) most-words) (leb 1 k) .0
+
+-- no words, or too many
+pub size-refused : (l : List ℕ) → length l % 4 ≡ 0 → (length (words l) ≡ 0) ⊎ (most-words < length (words l)) → rule-of l ≡ refused 1
+size-refused l e h = whole-words l e ∙ go (words l) h
+  where
+    go : (W : List ℤ) → (length W ≡ 0) ⊎ (most-words < length W) → decode W ≡ refused 1
+    go [] h = unfold decode in refl
+    go (w ∷ ws) (inl h) = absurd (omega arith)
+    go (w ∷ ws) (inr h) = too-long w ws h
+
+decode-count : (w : ℤ) (ws : List ℤ) (n : ℕ) → w ≡ signed n → (n < 1) ⊎ (length ws < n) → decode (w ∷ ws) ≡ refused 1
+unfolding decode cut
+decode-count (negsuc k) ws n e h = refl
+decode-count (pos k) ws n e h = go (T-dec (leb (suc (length ws)) most-words && leb 1 k)) h
   where
     same : n ≡ k
     same = number-of n k (sym e)
 
     short : (n : ℕ) (ws : List ℤ) → length ws < n → cut 1 n ws ≡ refused 1
     short zero ws h = absurd (omega arith)
-    short (suc n) [] h = unfold cut in refl
-    short (suc n) (w ∷ ws) h = unfold cut in if-refused _ (short n ws (omega arith))
+    short (suc n) [] h = refl
+    short (suc n) (w ∷ ws) h = if-refused _ (short n ws (omega arith))
 
     go : Dec (T (leb (suc (length ws)) most-words && leb 1 k)) → (n < 1) ⊎ (length ws < n) → decode (pos k ∷ ws) ≡ refused 1
-    go (no f) h = if-refused _ (test-fails (leb (suc (length ws)) most-words && leb 1 k) 1 f)
+    go (no f) h = test-first k ws f
     go (yes t) (inl h) = absurd (omega (arith, same, leb→le 1 k (T-and (leb (suc (length ws)) most-words) (leb 1 k) .0 t .1)))
-    go (yes t) (inr h) = then _ (passed (leb (suc (length ws)) most-words && leb 1 k) 1 t) ∙ if-refused _ (short k ws (omega (arith, same)))
+    go (yes t) (inr h) =
+        then _ (passed (leb (suc (length ws)) most-words && leb 1 k) 1 t) ∙ if-refused _ (short k ws (omega (arith, same)))
 
--- no words, too many, n below 1, or n + 1 over the length
-pub one-refused : (l : List ℕ) (n : ℕ) → length l % 4 ≡ 0 → getD (words l) 0 (pos 0) ≡ signed n
-    → (length (words l) ≡ 0) ⊎ ((most-words < length (words l)) ⊎ ((n < 1) ⊎ (length (words l) ≤ n))) → rule-of l ≡ refused 1
-one-refused l n e f h = whole-words l e ∙ go (words l) f h
+-- n below 1, or n + 1 over the length
+pub count-refused : (l : List ℕ) (n : ℕ) → length l % 4 ≡ 0 → getD (words l) 0 (pos 0) ≡ signed n → 0 < length (words l)
+    → (n < 1) ⊎ (length (words l) ≤ n) → rule-of l ≡ refused 1
+count-refused l n e f s h = whole-words l e ∙ go (words l) f s h
   where
-    go : (W : List ℤ) → getD W 0 (pos 0) ≡ signed n → (length W ≡ 0) ⊎ ((most-words < length W) ⊎ ((n < 1) ⊎ (length W ≤ n))) → decode W ≡ refused 1
-    go [] f h = unfold decode in refl
-    go (w ∷ ws) f (inl h) = absurd (omega arith)
-    go (w ∷ ws) f (inr (inl h)) = decode-first w ws n f (inl h)
-    go (w ∷ ws) f (inr (inr (inl h))) = decode-first w ws n f (inr (inl h))
-    go (w ∷ ws) f (inr (inr (inr h))) = decode-first w ws n f (inr (inr (omega arith)))
+    go : (W : List ℤ) → getD W 0 (pos 0) ≡ signed n → 0 < length W → (n < 1) ⊎ (length W ≤ n) → decode W ≡ refused 1
+    go [] f s h = absurd (omega arith)
+    go (w ∷ ws) f s (inl h) = decode-count w ws n f (inl h)
+    go (w ∷ ws) f s (inr h) = decode-count w ws n f (inr (omega arith))
 
 -- ---- what is not: n nodes are due
 

@@ -6,4 +6,6 @@ pub mod Fields
 pub mod KindLaws
 pub mod TreeLaws
 pub mod TreeSteps
+pub mod WalkLaws
 pub mod CheckLaws
+pub mod VerdictLaws

@@ -3,15 +3,14 @@
 -- Assumes nothing.
 use mathlib.Core.Path.{_≡_, refl, sym, _∙_, ap, subst}
 use mathlib.Core.List.{List, [], _∷_, _++_, append-assoc, append-nil}
-use Prim.Native.Nat.{ℕ, zero, suc, _+_, _-_, _<_, _≤_}
+use Prim.Native.Nat.{ℕ, suc, _+_, _<_, _≤_}
 use native.Mathlib.Omega.{arith}
-use lib.IntN.{ℤ, pos, _+ℤ_}
+use lib.IntN.{ℤ, pos}
 use lib.ListN.{length, getD, drop, length-append, List·getD-append}
 use lib.Seq.{drop-append-seam, drop-drop, getD-drop}
-use Rattle.rules.specs.Sum.{Sum}
-use Rattle.rules.specs.Rule.{Junction, and, or, Quantifier, Test, Rule, Constant, Join, Not, Literal, Bind}
-use Rattle.rules.specs.Table.{Node, constant-node, join-node, not-node, literal-node, bind-node, body, width, count, nodes, starts, bodies, table, encode}
-use Rattle.rules.proofs.Sizes.{words, weight, total, length-nodes, length-starts, length-body, length-bodies, total-nodes, weight-is}
+use Rattle.rules.specs.Rule.{Junction, and, or, Quantifier, Rule, Constant, Join, Not, Literal, Bind}
+use Rattle.rules.specs.Table.{Node, join-node, not-node, bind-node, body, width, count, nodes, starts, bodies, encode}
+use Rattle.rules.proofs.Sizes.{words, weight, total, length-nodes, length-starts, length-body, length-bodies, weight-is}
 use Rattle.tables.specs.Standing.{Nodes, Stands}
 
 -- ---- entries and bodies of nodes one after the other

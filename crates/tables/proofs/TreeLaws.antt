@@ -2,13 +2,12 @@
 -- Assumes nothing.
 use mathlib.Core.Path.{_≡_, refl, sym, _∙_, ap, subst}
 use mathlib.Core.List.{List, [], _∷_, _++_, append-assoc}
-use Prim.Native.Nat.{ℕ, suc, _+_, _≤_}
+use Prim.Native.Nat.{ℕ, _+_}
 use native.Mathlib.Omega.{arith}
 use lib.IntN.{ℤ, pos}
-use lib.ListN.{length, drop}
+use lib.ListN.{drop}
 use lib.Seq.{drop-at}
-use Rattle.rules.specs.Sum.{Sum}
-use Rattle.rules.specs.Rule.{Junction, Quantifier, Test, Rule, Constant, Join, Not, Literal, Bind}
+use Rattle.rules.specs.Rule.{Junction, Rule, Constant, Join, Not, Literal, Bind}
 use Rattle.rules.specs.Table.{Node, constant-node, join-node, not-node, literal-node, bind-node, count, nodes}
 use Rattle.rules.proofs.Sizes.{words, weight, length-nodes}
 use Rattle.rules.proofs.Trees.{arity, count-unique}

@@ -3,18 +3,18 @@
 -- Assumes nothing.
 use mathlib.Core.Path.{_≡_, refl, sym, _∙_, ap, subst}
 use mathlib.Core.Bool.{true, false}
-use mathlib.Core.List.{List, [], _∷_, _++_, append-assoc}
-use Prim.Native.Nat.{ℕ, zero, suc, _+_, _-_, _<_, _≤_}
+use mathlib.Core.List.{List, [], _∷_, _++_}
+use Prim.Native.Nat.{ℕ, _+_, _-_, _<_, _≤_}
 use native.Mathlib.Decide.{ℕ-discrete}
 use native.Mathlib.Omega.{arith}
 use lib.IntN.{ℤ, pos, _+ℤ_}
 use lib.ListN.{length, getD, drop, length-append, length-drop, List·getD-append}
 use lib.Seq.{drop-at, drop-drop}
 use Rattle.whole.proofs.Difference.{zz, z1}
-use Rattle.rules.specs.Rule.{Junction, and, or, for-some, for-all, positive, divisible, is-zero, Rule}
-use Rattle.rules.specs.Table.{Node, constant-node, join-node, not-node, literal-node, bind-node, body, count, nodes, bodies}
+use Rattle.rules.specs.Rule.{Junction, and, or, for-some, for-all, positive, divisible, is-zero}
+use Rattle.rules.specs.Table.{Node, constant-node, join-node, not-node, literal-node, bind-node, body, nodes, bodies}
 use Rattle.rules.specs.Calls.{signed}
-use Rattle.rules.proofs.Sizes.{words, weight, total, length-body, length-bodies, length-nodes, total-nodes, weight-is, before-sum}
+use Rattle.rules.proofs.Sizes.{words, total, length-body, length-bodies, length-nodes, total-nodes, weight-is, before-sum}
 use Rattle.rules.proofs.Encoding.{Good, AllGood, good-nodes}
 use Rattle.rules.proofs.Trees.{arity}
 use Rattle.tables.specs.Reads.{widths, kind-of}
@@ -67,8 +67,8 @@ rooted bs n left k [] e h b l g = absurd (omega arith)
 rooted bs n left k (d ∷ ds) e h b l g =
     let c : Kinds d = kinds d (g .0) in
     let start : getD bs 0 (pos 0) ≡ pos (kind-of d) =
-      ap (λ (ws : List ℤ). getD ws 0 (pos 0)) b
-      ∙ List·getD-append (body n d) (bodies (n + 1) ds) (pos 0) 0 (omega (arith, length-body n d, c .some)) ∙ c .first n in
+    ap (λ (ws : List ℤ). getD ws 0 (pos 0)) b
+    ∙ List·getD-append (body n d) (bodies (n + 1) ds) (pos 0) 0 (omega (arith, length-body n d, c .some)) ∙ c .first n in
     let same : k ≡ kind-of d = number-of k (kind-of d) (sym e ∙ start) in
     record {
       root = d;
@@ -138,34 +138,8 @@ module _ (bs : List ℤ) (n left k : ℕ) (e : getD bs 0 (pos 0) ≡ signed k) (
           let (j, right, i) = two-children (r .root) (λ x. z (r .children ∙ x)) f in
           subst (λ (d : Node). TreeOf (d ∷ r .after) Broken) (sym i) (left-broken j right (r .after) c)
 
-  -- two children: the right child's number is word 1
-  module _ (m q u : ℕ) (two : ¬ (getD arities k 0 ≡ 0)) (not-one : ¬ (getD arities k 0 ≡ 1)) (second : getD bs 1 (pos 0) ≡ signed u)
-      (t : TreeAt (drop (getD widths k 0) bs) (n + 1) (left - 1) (Ends m q)) where
-    record Pair (ds : List Node) : Type 0 where
-      rooted-at : Rooted bs n left k ds
-      joint : Junction
-      right : ℤ
-      is : rooted-at .root ≡ join-node joint right
-      child : pos n +ℤ right ≡ signed u
-
-    pair : (ds : List Node) → bs ≡ bodies n ds → length ds ≡ left → AllGood ds → Pair ds
-    pair ds b l g =
-        let r = rooted bs n left k ds e h b l g in
-        let (j, right, i) = two-children (r .root) (λ x. two (r .children ∙ x)) (λ x. not-one (r .children ∙ x)) in
-        record { rooted-at = r; joint = j; right = right; is = i; child = word j right (r .after) (r .bodies-are ∙ ap (λ (d : Node). body n d ++ bodies (n + 1) (r .after)) i) }
-      where
-        word : (j : Junction) (right : ℤ) (fs : List Node) → bs ≡ body n (join-node j right) ++ bodies (n + 1) fs → pos n +ℤ right ≡ signed u
-        word and right fs b = unfold body in sym (ap (λ (ws : List ℤ). getD ws 1 (pos 0)) b) ∙ second
-        word or right fs b = unfold body in sym (ap (λ (ws : List ℤ). getD ws 1 (pos 0)) b) ∙ second
-
-    pub tree-wrong : ¬ (u ≡ n + 1 + m) → TreeAt bs n left Broken
-    unfolding TreeAt
-    tree-wrong f ds b l g =
-        let p = pair ds b l g in
-        let r = p .rooted-at in
-        subst (λ (fs : List Node). TreeOf fs Broken) (sym (r .is ∙ ap (λ (d : Node). d ∷ r .after) (p .is)))
-        (wrong-child (p .joint) (p .right) (r .after) m q (first-child (Ends m q) t ds r) (λ i. f (number-of u (n + 1 + m) (sym (p .child) ∙ ap (λ z. pos n +ℤ z) i ∙ ap pos (omega arith)))))
-
+  -- behind the first child's tree, of m nodes and q words
+  module _ (m q : ℕ) (t : TreeAt (drop (getD widths k 0) bs) (n + 1) (left - 1) (Ends m q)) where
     -- the second child's bodies
     second-bodies : (ds : List Node) (r : Rooted bs n left k ds) → drop (getD widths k 0 + q) bs ≡ bodies (n + 1 + m) (drop m (r .after))
     second-bodies ds r =
@@ -188,28 +162,6 @@ module _ (bs : List ℤ) (n left k : ℕ) (e : getD bs 0 (pos 0) ≡ signed k) (
     unfolding TreeAt
     second-child v s ds r = s (drop m (r .after)) (second-bodies ds r) (second-long ds r .0) (second-good ds r)
 
-    pub tree-right-broken : TreeAt (drop (getD widths k 0 + q) bs) (n + 1 + m) (left - 1 - m) Broken → TreeAt bs n left Broken
-    unfolding TreeAt
-    tree-right-broken s ds b l g =
-        let p = pair ds b l g in
-        let r = p .rooted-at in
-        subst (λ (fs : List Node). TreeOf fs Broken) (sym (r .is ∙ ap (λ (d : Node). d ∷ r .after) (p .is)))
-        (right-broken (p .joint) (p .right) (r .after) m q (first-child (Ends m q) t ds r) (second-child Broken s ds r))
-
-    pub tree-two : (i x : ℕ) → u ≡ n + 1 + m → u < 2147483648 → TreeAt (drop (getD widths k 0 + q) bs) (n + 1 + m) (left - 1 - m) (Ends i x)
-        → TreeAt bs n left (Ends (1 + m + i) (getD widths k 0 + q + x))
-    unfolding TreeAt
-    tree-two i x a lo s ds b l g =
-        let p = pair ds b l g in
-        let r = p .rooted-at in
-        let wide : getD widths k 0 ≡ 2 = r .wide ∙ ap words (p .is) ∙ unfold words in refl in
-        subst (λ (fs : List Node). TreeOf fs (Ends (1 + m + i) (getD widths k 0 + q + x))) (sym (r .is ∙ ap (λ (d : Node). d ∷ r .after) (p .is)))
-        (subst (λ (y : ℕ). TreeOf (join-node (p .joint) (p .right) ∷ r .after) (Ends (1 + m + i) (y + q + x))) (sym wide)
-        (two-end (p .joint) (p .right) (r .after) m q i x (first-child (Ends m q) t ds r) (child n (1 + m) (p .right) (p .child ∙ signed-low u lo ∙ ap pos (a ∙ omega arith))) (second-child (Ends i x) s ds r)))
-      where
-        child : (n c : ℕ) (z : ℤ) → pos n +ℤ z ≡ pos (n + c) → z ≡ pos c
-        child n c = z1 _ (simp zz (omega arith))
-
     pub listed-second : Listed bs n left → Listed (drop (getD widths k 0 + q) bs) (n + 1 + m) (left - 1 - m) × (m ≤ left - 1) × (getD widths k 0 + q ≤ length bs)
     listed-second L =
         let r = rooted bs n left k (L .nodes) e h (L .bodies) (L .long) (L .good) in
@@ -218,6 +170,62 @@ module _ (bs : List ℤ) (n left k : ℕ) (e : getD bs 0 (pos 0) ≡ signed k) (
           second-long (L .nodes) r .1,
           omega (arith, root-inside bs n left k (L .nodes) r, ap total i, total-nodes a (drop m (r .after))),
         )
+
+    -- two children: the right child's number is word 1
+    module _ (u : ℕ) (two : ¬ (getD arities k 0 ≡ 0)) (not-one : ¬ (getD arities k 0 ≡ 1)) (second : getD bs 1 (pos 0) ≡ signed u) where
+      record Pair (ds : List Node) : Type 0 where
+        rooted-at : Rooted bs n left k ds
+        joint : Junction
+        right : ℤ
+        is : rooted-at .root ≡ join-node joint right
+        child : pos n +ℤ right ≡ signed u
+
+      pair : (ds : List Node) → bs ≡ bodies n ds → length ds ≡ left → AllGood ds → Pair ds
+      pair ds b l g =
+          let r = rooted bs n left k ds e h b l g in
+          let (j, right, i) = two-children (r .root) (λ x. two (r .children ∙ x)) (λ x. not-one (r .children ∙ x)) in
+          record { rooted-at = r; joint = j; right = right; is = i; child = word j right (r .after) (r .bodies-are ∙ ap (λ (d : Node). body n d ++ bodies (n + 1) (r .after)) i) }
+        where
+          word : (j : Junction) (right : ℤ) (fs : List Node) → bs ≡ body n (join-node j right) ++ bodies (n + 1) fs → pos n +ℤ right ≡ signed u
+          word and right fs b = unfold body in sym (ap (λ (ws : List ℤ). getD ws 1 (pos 0)) b) ∙ second
+          word or right fs b = unfold body in sym (ap (λ (ws : List ℤ). getD ws 1 (pos 0)) b) ∙ second
+
+      pub tree-wrong : ¬ (u ≡ n + 1 + m) → TreeAt bs n left Broken
+      unfolding TreeAt
+      tree-wrong f ds b l g =
+          let p = pair ds b l g in
+          let r = p .rooted-at in
+          subst (λ (fs : List Node). TreeOf fs Broken) (sym (r .is ∙ ap (λ (d : Node). d ∷ r .after) (p .is)))
+          (wrong-child (p .joint) (p .right) (r .after) m q (first-child (Ends m q) t ds r) (λ i. f (number-of u (n + 1 + m) (sym (p .child) ∙ ap (λ z. pos n +ℤ z) i ∙ ap pos (omega arith)))))
+
+      pub tree-right-broken : TreeAt (drop (getD widths k 0 + q) bs) (n + 1 + m) (left - 1 - m) Broken → TreeAt bs n left Broken
+      unfolding TreeAt
+      tree-right-broken s ds b l g =
+          let p = pair ds b l g in
+          let r = p .rooted-at in
+          subst (λ (fs : List Node). TreeOf fs Broken) (sym (r .is ∙ ap (λ (d : Node). d ∷ r .after) (p .is)))
+          (right-broken (p .joint) (p .right) (r .after) m q (first-child (Ends m q) t ds r) (second-child Broken s ds r))
+
+      pub tree-two : (i x : ℕ) → u ≡ n + 1 + m → u < 2147483648 → TreeAt (drop (getD widths k 0 + q) bs) (n + 1 + m) (left - 1 - m) (Ends i x)
+          → TreeAt bs n left (Ends (1 + m + i) (getD widths k 0 + q + x))
+      unfolding TreeAt
+      tree-two i x a lo s ds b l g =
+          let p = pair ds b l g in
+          let r = p .rooted-at in
+          let wide : getD widths k 0 ≡ 2 = r .wide ∙ ap words (p .is) ∙ unfold words in refl in
+          subst (λ (fs : List Node). TreeOf fs (Ends (1 + m + i) (getD widths k 0 + q + x))) (sym (r .is ∙ ap (λ (d : Node). d ∷ r .after) (p .is)))
+          (subst (λ (y : ℕ). TreeOf (join-node (p .joint) (p .right) ∷ r .after) (Ends (1 + m + i) (y + q + x))) (sym wide)
+          (two-end (p .joint) (p .right) (r .after) m q i x (first-child (Ends m q) t ds r) (child n (1 + m) (p .right) (p .child ∙ signed-low u lo ∙ ap pos (a ∙ omega arith))) (second-child (Ends i x) s ds r)))
+        where
+          child : (n c : ℕ) (z : ℤ) → pos n +ℤ z ≡ pos (n + c) → z ≡ pos c
+          child n c = z1 _ (simp zz (omega arith))
+
+  pub two-words : ¬ (getD arities k 0 ≡ 0) → ¬ (getD arities k 0 ≡ 1) → Listed bs n left → 1 < length bs
+  unfolding words
+  two-words two not-one L =
+      let r = rooted bs n left k (L .nodes) e h (L .bodies) (L .long) (L .good) in
+      let (j, right, i) = two-children (r .root) (λ x. two (r .children ∙ x)) (λ x. not-one (r .children ∙ x)) in
+      omega (arith, root-inside bs n left k (L .nodes) r, r .wide, ap words i)
 
   pub listed-first : Listed bs n left → Listed (drop (getD widths k 0) bs) (n + 1) (left - 1) × (getD widths k 0 ≤ length bs)
   listed-first L =
@@ -234,3 +242,12 @@ listed-some bs n left L h = go (L .nodes) (L .bodies) (L .long) (L .good)
     go [] b l g = absurd (omega arith)
     go (d ∷ ds) b l g = unfold bodies AllGood in
         omega (arith, ap length b, length-append (body n d) (bodies (n + 1) ds), length-body n d, kinds d (g .0) .some)
+
+-- a tree that starts some bodies is no longer than they are
+pub tree-fits : (bs : List ℤ) (n left m q : ℕ) → Listed bs n left → TreeAt bs n left (Ends m q) → (m ≤ left) × (q ≤ length bs)
+unfolding TreeAt
+tree-fits bs n left m q L t =
+    let (a, i, c, x) = after-left (L .nodes) m q (t (L .nodes) (L .bodies) (L .long) (L .good)) in (
+      omega (arith, ap length i, length-append (nodes a) (drop m (L .nodes)), length-nodes a, L .long),
+      omega (arith, ap length (L .bodies), length-bodies n (L .nodes), ap total i, total-nodes a (drop m (L .nodes))),
+    )

@@ -5,6 +5,7 @@ use mathlib.Core.Bool.{Bool, true, false, cond}
 use mathlib.Core.List.{List, [], _∷_}
 use Prim.Native.Nat.{ℕ, zero, suc, _+_, _-_, _*_, _/_, _%_, _<_, _≤_}
 use native.Mathlib.Omega.{arith}
+use borrow.Rule.Slice.PartAt.{part-to-end}
 use borrow.Author.Tests.{lt-ltb, le-ltb, ltb-true, ltb-false}
 use lib.Dec.{ltb}
 use lib.IntN.{ℤ, pos, negsuc}
@@ -135,6 +136,10 @@ words-drop (a ∷ []) (suc k) = rw (next k, drop-nil)
 words-drop (a ∷ b ∷ []) (suc k) = rw (next k, drop-nil)
 words-drop (a ∷ b ∷ c ∷ []) (suc k) = rw (next k, drop-nil)
 words-drop (a ∷ b ∷ c ∷ d ∷ l) (suc k) = rw (next k) (words-drop l k)
+
+-- the bytes from word k on, as `&l[k * 4..]` lends them
+pub words-from : (l : List ℕ) (k : ℕ) → words (take (length l - k * 4) (drop (k * 4) l)) ≡ drop k (words l)
+words-from l k = ap words (part-to-end l (k * 4)) ∙ words-drop l k
 
 pub words-take : (l : List ℕ) (k : ℕ) → words (take (k * 4) l) ≡ take k (words l)
 unfolding words

@@ -11,6 +11,8 @@ use Rattle.rules.specs.Table.{Node, count, nodes, bodies}
 use Rattle.rules.specs.Decode.{read}
 use Rattle.rules.proofs.Sizes.{weight}
 use Rattle.rules.proofs.Encoding.{AllGood}
+use Rattle.tables.specs.declared.reading.Reading.{Reading}
+use Rattle.tables.specs.declared.reading.Reading.the-variants.{Whole, Refused}
 use Rattle.tables.specs.declared.check.Tree.{Tree}
 use Rattle.tables.specs.declared.check.Tree.the-variants.{Ends, Broken}
 use Rattle.tables.specs.declared.check.Checked.{Checked}
@@ -49,3 +51,8 @@ rest W n i p = read i (take (n - i) (drop (i + 1) W)) p (drop p W)
 unfoldable pub Verdict : Result Rule → Checked → Type 0
 Verdict x (Table n) = (r : Rule) × (x ≡ given r) × (n ≡ count r)
 Verdict x (Not k) = x ≡ refused k
+
+-- a reading's refusal is the verdict's
+abbrev pub refusal : Reading → Checked
+refusal (Whole k next) = Table next
+refusal (Refused k) = Not k
