@@ -1,0 +1,4 @@
+pub mod Sizes
+pub mod Terms
+pub mod Tests
+pub mod Literals

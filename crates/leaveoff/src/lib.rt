@@ -1,0 +1,2 @@
+// The leave-off test and matching, on lent bytes.
+mod literal;
