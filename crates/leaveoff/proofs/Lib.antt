@@ -2,3 +2,5 @@ pub mod Sizes
 pub mod Terms
 pub mod Tests
 pub mod Literals
+pub mod Values
+pub mod MatchingLaws

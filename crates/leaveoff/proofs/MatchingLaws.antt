@@ -1,0 +1,354 @@
+-- The rule that stands in a table and is matched: its shape by the kind, its parts, and what they make of its verdict.
+-- Assumes nothing.
+use mathlib.Core.Path.{_≡_, refl, sym, _∙_, ap, subst}
+use mathlib.Core.Bool.{Bool, true, false, not, _&&_, _||_, Bool·beq}
+use mathlib.Core.List.{List, [], _∷_, _++_, append-assoc}
+use Prim.Native.Nat.{ℕ, _+_, _-_, _*_, _<_, _≤_}
+use native.Mathlib.Omega.{arith}
+use borrow.Rule.Slice.PartAt.{part-to-end}
+use lib.Dec.{eqb}
+use lib.IntN.{ℤ, pos}
+use lib.ListN.{length, getD, take, drop, length-drop}
+use Rattle.rules.specs.Sum.{Sum, Choice, value}
+use Rattle.rules.specs.Rule.{Junction, and, or, for-some, for-all, Test, positive, divisible, is-zero}
+use Rattle.rules.specs.Rule.{Rule, Constant, Join, Not, Literal, Bind, passes}
+use Rattle.rules.specs.Table.{constant-node, join-node, not-node, literal-node, bind-node, body, bodies, count, nodes}
+use Rattle.rules.specs.Chosen.{quantifiers}
+use Rattle.rules.specs.Laws.{Each}
+use Rattle.rules.specs.Match.{joined, holds, choice}
+use Rattle.rules.specs.Calls.{signed, words as words-of}
+use Rattle.rules.proofs.Meaning.{join-free}
+use Rattle.rules.proofs.Sizes.{words, weight, count-pos}
+use Rattle.tables.specs.Standing.{Stands}
+use Rattle.tables.proofs.WordLaws.{number-of, words-from, words-length}
+use Rattle.tables.proofs.WalkLaws.{part}
+use Rattle.tables.proofs.Standings.{body-word, under-not, left, right, right-child, right-entry, inside-entries, inside-bodies}
+use Rattle.leaveoff.specs.Literal.{kind-of, LiteralAt, SomeLiteral}
+use Rattle.leaveoff.specs.Matching.{Matchable, SomeMatchable}
+
+-- ---- the kind
+
+-- what settles a join, and the kind of one
+abbrev pub settling : Junction → Bool
+settling and = false
+settling or = true
+
+abbrev joint-kind : Junction → ℕ
+joint-kind and = 2
+joint-kind or = 3
+
+abbrev rule-kind : Rule → ℕ
+rule-kind (Constant false) = 0
+rule-kind (Constant true) = 1
+rule-kind (Join j a b) = joint-kind j
+rule-kind (Not a) = 4
+rule-kind (Literal t s) = kind-of t
+rule-kind (Bind for-some v a) = 8
+rule-kind (Bind for-all v a) = 9
+
+module _ {es bs : List ℤ} {n p : ℕ} where
+  kind-word : (a : Rule) → Stands es bs n p a → getD bs 0 (pos 0) ≡ pos (rule-kind a)
+  unfolding nodes words body
+  kind-word (Constant false) s = body-word (constant-node false) [] 0 s (omega arith)
+  kind-word (Constant true) s = body-word (constant-node true) [] 0 s (omega arith)
+  kind-word (Join and a b) s = body-word (join-node and (pos (1 + count a))) (nodes a ++ nodes b) 0 s (omega arith)
+  kind-word (Join or a b) s = body-word (join-node or (pos (1 + count a))) (nodes a ++ nodes b) 0 s (omega arith)
+  kind-word (Not a) s = body-word not-node (nodes a) 0 s (omega arith)
+  kind-word (Literal positive t) s = body-word (literal-node positive t) [] 0 s (omega arith)
+  kind-word (Literal (divisible true k) t) s = body-word (literal-node (divisible true k) t) [] 0 s (omega arith)
+  kind-word (Literal (divisible false k) t) s = body-word (literal-node (divisible false k) t) [] 0 s (omega arith)
+  kind-word (Literal is-zero t) s = body-word (literal-node is-zero t) [] 0 s (omega arith)
+  kind-word (Bind for-some v a) s = body-word (bind-node for-some v) (nodes a) 0 s (omega arith)
+  kind-word (Bind for-all v a) s = body-word (bind-node for-all v) (nodes a) 0 s (omega arith)
+
+-- ---- the shape by the kind
+
+-- the sides of a join, and where the right one is found
+pub record SidesAt (es bs : List ℤ) (n p : ℕ) (a b : Rule) : Type 0 where
+  pub left-at : Matchable (drop 1 es) (drop 2 bs) (n + 1) (p + 2) a
+  pub right-at : Matchable (drop (1 + count a) es) (drop (2 + weight a) bs) (n + (1 + count a)) (p + (2 + weight a)) b
+  pub child : getD bs 1 (pos 0) ≡ pos (n + (1 + count a))
+  pub entry : getD es (1 + count a) (pos 0) ≡ pos (p + (2 + weight a))
+
+pub data Shape (es bs : List ℤ) (n p k : ℕ) : Rule → Type 0 where
+  constant : (b : Bool) → k < 2 → eqb k 1 ≡ b → Shape es bs n p k (Constant b)
+  negation : (a : Rule) → k ≡ 4 → Matchable (drop 1 es) (drop 1 bs) (n + 1) (p + 1) a → Shape es bs n p k (Not a)
+  literal : (t : Test) (s : Sum) → 4 < k → LiteralAt bs n t s → Shape es bs n p k (Literal t s)
+  join : (j : Junction) (a b : Rule) → k ≡ joint-kind j → SidesAt es bs n p a b → Shape es bs n p k (Join j a b)
+
+literal-kinds : (t : Test) → 4 < kind-of t
+literal-kinds positive = omega arith
+literal-kinds (divisible true k) = omega arith
+literal-kinds (divisible false k) = omega arith
+literal-kinds is-zero = omega arith
+
+module _ {es bs : List ℤ} {n p : ℕ} where
+  literal-at : (t : Test) (s : Sum) → Matchable es bs n p (Literal t s) → LiteralAt bs n t s
+  unfolding nodes bodies Each
+  literal-at t s m = record {
+    after = bodies (n + 1) [] ++ m .stands .bodies-after;
+    begins = m .stands .bodies ∙ append-assoc (body n (literal-node t s)) (bodies (n + 1) []) (m .stands .bodies-after);
+    long = m .formed .0;
+    fair = m .formed .2;
+  }
+
+  sides-at : (j : Junction) (a b : Rule) → Matchable es bs n p (Join j a b) → SidesAt es bs n p a b
+  unfolding Each
+  sides-at j a b m =
+      let (f, g) = join-free j a b (m .free) in
+      record {
+        left-at = record { stands = left j a b (m .stands); formed = m .formed .0; free = f };
+        right-at = record { stands = right j a b (m .stands); formed = m .formed .1; free = g };
+        child = right-child j a b (m .stands);
+        entry = right-entry j a b (m .stands);
+      }
+
+  pub shape : (k : ℕ) → getD bs 0 (pos 0) ≡ signed k → (a : Rule) → Matchable es bs n p a → Shape es bs n p k a
+  unfolding Each quantifiers
+  shape k e a m = go a m (number-of k (rule-kind a) (sym e ∙ kind-word a (m .stands)))
+    where
+      go : (a : Rule) → Matchable es bs n p a → k ≡ rule-kind a → Shape es bs n p k a
+      go (Constant false) m i = constant false (omega arith) (ap (λ (x : ℕ). eqb x 1) i)
+      go (Constant true) m i = constant true (omega arith) (ap (λ (x : ℕ). eqb x 1) i)
+      go (Join j a b) m i = join j a b i (sides-at j a b m)
+      go (Not a) m i = negation a i (record { stands = under-not a (m .stands); formed = m .formed; free = m .free })
+      go (Literal t s) m i = literal t s (omega (arith, literal-kinds t)) (literal-at t s m)
+      go (Bind q v a) m i = absurd (omega (arith, m .free))
+
+-- a kind from 2 to 3 is a join's
+pub record Joined (es bs : List ℤ) (n p k : ℕ) (a : Rule) : Type 0 where
+  pub joint : Junction
+  pub left-side : Rule
+  pub right-side : Rule
+  pub is : a ≡ Join joint left-side right-side
+  pub kind : k ≡ joint-kind joint
+  pub sides : SidesAt es bs n p left-side right-side
+
+pub a-join : {es bs : List ℤ} {n p k : ℕ} → 2 ≤ k → k ≤ 3 → (a : Rule) → Shape es bs n p k a → Joined es bs n p k a
+a-join f g a (constant b l e) = absurd (omega arith)
+a-join f g a (negation b e m) = absurd (omega arith)
+a-join f g a (literal t s l m) = absurd (omega arith)
+a-join f g a (join j b c e m) = record { joint = j; left-side = b; right-side = c; is = refl; kind = e; sides = m }
+
+same-verdict : (x y : Bool) → Bool·beq x y ≡ true → x ≡ y
+same-verdict true true e = refl
+same-verdict false false e = refl
+same-verdict true false e = sym e
+same-verdict false true e = e
+
+other-verdict : (x y : Bool) → Bool·beq x y ≡ false → x ≡ not y
+other-verdict true true e = e
+other-verdict false false e = sym e
+other-verdict true false e = refl
+other-verdict false true e = refl
+
+-- only an or is settled by true
+settles : (k : ℕ) (j : Junction) → k ≡ joint-kind j → eqb k 3 ≡ settling j
+settles k and i = ap (λ (m : ℕ). eqb m 3) i
+settles k or i = ap (λ (m : ℕ). eqb m 3) i
+
+moved : (es bs : List ℤ) {i j n p : ℕ} (e f m q : ℕ) (a : Rule) → i ≡ e → j ≡ f → n ≡ m → p ≡ q
+    → Matchable (drop i es) (drop j bs) n p a → Matchable (drop e es) (drop f bs) m q a
+moved es bs {i} {j} {n} {p} e f m q a x y z w h =
+    subst (λ (u : ℕ). Matchable (drop u es) (drop f bs) m q a) x
+    (subst (λ (u : ℕ). Matchable (drop i es) (drop u bs) m q a) y
+    (subst (λ (u : ℕ). Matchable (drop i es) (drop j bs) u q a) z
+    (subst (λ (u : ℕ). Matchable (drop i es) (drop j bs) n u a) w h)))
+
+weight-pos : (r : Rule) → 1 ≤ weight r
+unfolding weight words
+weight-pos (Constant b) = omega arith
+weight-pos (Join j a b) = omega arith
+weight-pos (Not a) = omega arith
+weight-pos (Literal t s) = omega (arith, literal-long t s)
+  where
+    literal-long : (t : Test) (s : Sum) → 1 ≤ words (literal-node t s)
+    literal-long positive s = omega arith
+    literal-long (divisible b k) s = omega arith
+    literal-long is-zero s = omega arith
+weight-pos (Bind q v a) = omega arith
+
+-- a join has its own node and those of its sides
+join-inside : {es bs : List ℤ} {n p : ℕ} (a : Rule) (j : Junction) (b c : Rule) → a ≡ Join j b c → Matchable es bs n p a
+    → (1 + count b < length es) × (2 + weight b ≤ length bs)
+unfolding count weight
+join-inside {es} {bs} {n} {p} a j b c e m =
+    let s : Stands es bs n p (Join j b c) = subst (Stands es bs n p) e (m .stands) in
+    (omega (arith, inside-entries (Join j b c) s, count-pos c), omega (arith, inside-bodies (Join j b c) s))
+
+-- ---- in bytes: what is asked for at each call, and what its verdict makes of the rule's
+
+pub matchable-part : (le lb : List ℕ) (i j n p : ℕ) (a : Rule) → Matchable (drop i (words-of le)) (drop j (words-of lb)) n p a
+    → Matchable (part le i) (part lb j) n p a
+matchable-part le lb i j n p a m =
+    subst (λ (es : List ℤ). Matchable es (part lb j) n p a) (sym (words-from le i))
+    (subst (λ (bs : List ℤ). Matchable (drop i (words-of le)) bs n p a) (sym (words-from lb j)) m)
+
+-- what a verdict of the part at these places says
+abbrev Says : List ℕ → List ℕ → ℕ → ℕ → ℕ → ℕ → List ℤ → Bool → Type 0
+Says le lb i j n p vs x = (a : Rule) → Matchable (part le i) (part lb j) n p a → x ≡ holds a (choice vs)
+
+module _ (le lb : List ℕ) {n p : ℕ} (k : ℕ) (first : getD (words-of lb) 0 (pos 0) ≡ signed k) where
+  shape-of : (a : Rule) → Matchable (words-of le) (words-of lb) n p a → Shape (words-of le) (words-of lb) n p k a
+  shape-of = shape k first
+
+  -- a constant
+  pub constant-holds : (vs : List ℤ) → k < 2 → (a : Rule) → Matchable (words-of le) (words-of lb) n p a
+      → eqb k 1 ≡ holds a (choice vs)
+  unfolding holds
+  constant-holds vs h a m = go a (shape-of a m)
+    where
+      go : (a : Rule) → Shape (words-of le) (words-of lb) n p k a → eqb k 1 ≡ holds a (choice vs)
+      go a (constant b l e) = e
+      go a (negation b e m) = absurd (omega arith)
+      go a (literal t s l m) = absurd (omega arith)
+      go a (join and b c e m) = absurd (omega arith)
+      go a (join or b c e m) = absurd (omega arith)
+
+  -- a not
+  a-not : k ≡ 4 → (a : Rule) → Matchable (words-of le) (words-of lb) n p a
+      → (b : Rule) × (a ≡ Not b) × Matchable (part le 1) (part lb 1) (n + 1) (p + 1) b
+  a-not h a m = go a (shape-of a m)
+    where
+      go : (a : Rule) → Shape (words-of le) (words-of lb) n p k a
+          → (b : Rule) × (a ≡ Not b) × Matchable (part le 1) (part lb 1) (n + 1) (p + 1) b
+      go a (constant b l e) = absurd (omega arith)
+      go a (negation b e m) = (b, refl, matchable-part le lb 1 1 (n + 1) (p + 1) b m)
+      go a (literal t s l m) = absurd (omega arith)
+      go a (join and b c e m) = absurd (omega arith)
+      go a (join or b c e m) = absurd (omega arith)
+
+  pub some-under-not : k ≡ 4 → SomeMatchable (words-of le) (words-of lb) n p → SomeMatchable (part le 1) (part lb 1) (n + 1) (p + 1)
+  some-under-not h m = let (b, e, x) = a-not h (m .rule) (m .at) in record { rule = b; at = x }
+
+  pub not-holds : (vs : List ℤ) {x : Bool} → k ≡ 4 → Says le lb 1 1 (n + 1) (p + 1) vs x
+      → (a : Rule) → Matchable (words-of le) (words-of lb) n p a → not x ≡ holds a (choice vs)
+  unfolding holds
+  not-holds vs h f a m =
+      let (b, e, i) = a-not h a m in ap not (f b i) ∙ ap (λ (r : Rule). holds r (choice vs)) (sym e)
+
+  -- a literal
+  a-literal : 3 < k → ¬ (k ≡ 4) → (a : Rule) → Matchable (words-of le) (words-of lb) n p a
+      → (t : Test) × (s : Sum) × (a ≡ Literal t s) × LiteralAt (words-of lb) n t s
+  a-literal h f a m = go a (shape-of a m)
+    where
+      go : (a : Rule) → Shape (words-of le) (words-of lb) n p k a
+          → (t : Test) × (s : Sum) × (a ≡ Literal t s) × LiteralAt (words-of lb) n t s
+      go a (constant b l e) = absurd (omega arith)
+      go a (negation b e m) = absurd (f e)
+      go a (literal t s l m) = (t, s, refl, m)
+      go a (join and b c e m) = absurd (omega arith)
+      go a (join or b c e m) = absurd (omega arith)
+
+  pub some-literal : 3 < k → ¬ (k ≡ 4) → SomeMatchable (words-of le) (words-of lb) n p → SomeLiteral (words-of lb)
+  some-literal h f m =
+      let (t, s, e, l) = a-literal h f (m .rule) (m .at) in record { node = n; test = t; sum = s; at = l }
+
+  pub literal-holds : (vs : List ℤ) {x : Bool} → 3 < k → ¬ (k ≡ 4)
+      → ((i : ℕ) (t : Test) (s : Sum) → LiteralAt (words-of lb) i t s → x ≡ passes t (value s (choice vs)))
+      → (a : Rule) → Matchable (words-of le) (words-of lb) n p a → x ≡ holds a (choice vs)
+  unfolding holds
+  literal-holds vs h f g a m =
+      let (t, s, e, l) = a-literal h f a m in g n t s l ∙ ap (λ (r : Rule). holds r (choice vs)) (sym e)
+
+  -- a join
+  module _ (low : 2 ≤ k) (high : k ≤ 3) where
+    sides-of : (a : Rule) → Matchable (words-of le) (words-of lb) n p a → Joined (words-of le) (words-of lb) n p k a
+    sides-of a m = a-join low high a (shape-of a m)
+
+    left-part : {a : Rule} (J : Joined (words-of le) (words-of lb) n p k a)
+        → Matchable (part le 1) (part lb 2) (n + 1) (p + 2) (J .left-side)
+    left-part J = matchable-part le lb 1 2 (n + 1) (p + 2) (J .left-side) (J .sides .left-at)
+
+    pub some-left : SomeMatchable (words-of le) (words-of lb) n p → SomeMatchable (part le 1) (part lb 2) (n + 1) (p + 2)
+    some-left m = let J = sides-of (m .rule) (m .at) in record { rule = J .left-side; at = left-part J }
+
+    -- the left side settles it
+    pub left-holds : (vs : List ℤ) {x : Bool} → Says le lb 1 2 (n + 1) (p + 2) vs x → Bool·beq x (eqb k 3) ≡ true
+        → (a : Rule) → Matchable (words-of le) (words-of lb) n p a → x ≡ holds a (choice vs)
+    unfolding holds
+    left-holds vs {x} f e a m =
+        let J = sides-of a m in
+        settled (J .joint) x (holds (J .right-side) (choice vs)) (same-verdict x (eqb k 3) e ∙ settles k (J .joint) (J .kind))
+        ∙ ap (λ (y : Bool). joined (J .joint) y (holds (J .right-side) (choice vs))) (f (J .left-side) (left-part J))
+        ∙ ap (λ (r : Rule). holds r (choice vs)) (sym (J .is))
+      where
+        settled : (j : Junction) (x y : Bool) → x ≡ settling j → x ≡ joined j x y
+        settled and x y e = e ∙ sym (ap (λ (z : Bool). z && y) e)
+        settled or x y e = e ∙ sym (ap (λ (z : Bool). z || y) e)
+
+    inside : (a : Rule) (m : Matchable (words-of le) (words-of lb) n p a) (J : Joined (words-of le) (words-of lb) n p k a)
+        → (1 + count (J .left-side) < length (words-of le)) × (2 + weight (J .left-side) ≤ length (words-of lb))
+    inside a m J = join-inside a (J .joint) (J .left-side) (J .right-side) (J .is) m
+
+    pub two-words : SomeMatchable (words-of le) (words-of lb) n p → (1 < length (words-of le)) × (1 < length (words-of lb))
+    two-words m =
+        let (x, y) = inside (m .rule) (m .at) (sides-of (m .rule) (m .at)) in
+        (omega (arith, x), omega (arith, y))
+
+    -- where the right side is: its number, and the place that its entry gives
+    module _ (child : ℕ) (number : getD (words-of lb) 1 (pos 0) ≡ signed child) where
+      child-is : {a : Rule} (J : Joined (words-of le) (words-of lb) n p k a) → child ≡ n + (1 + count (J .left-side))
+      child-is J = number-of child (n + (1 + count (J .left-side))) (sym number ∙ J .sides .child)
+
+      skip-is : {a : Rule} (J : Joined (words-of le) (words-of lb) n p k a) → child - n ≡ 1 + count (J .left-side)
+      skip-is J = omega (arith, child-is J)
+
+      pub child-inside : SomeMatchable (words-of le) (words-of lb) n p → (n < child) × (child - n < length (words-of le))
+      child-inside m =
+          let J = sides-of (m .rule) (m .at) in
+          (omega (arith, child-is J), omega (arith, child-is J, inside (m .rule) (m .at) J .0))
+
+      module _ (at : ℕ) (entry-is : getD (words-of le) (child - n) (pos 0) ≡ signed at) where
+        at-is : {a : Rule} (J : Joined (words-of le) (words-of lb) n p k a) → at ≡ p + (2 + weight (J .left-side))
+        at-is J =
+            number-of at (p + (2 + weight (J .left-side)))
+            (sym entry-is ∙ ap (λ (i : ℕ). getD (words-of le) i (pos 0)) (skip-is J) ∙ J .sides .entry)
+
+        pub at-inside : SomeMatchable (words-of le) (words-of lb) n p → (p < at) × (at - p ≤ length (words-of lb))
+        at-inside m =
+            let J = sides-of (m .rule) (m .at) in
+            (omega (arith, at-is J), omega (arith, at-is J, inside (m .rule) (m .at) J .1))
+
+        right-part : {a : Rule} (J : Joined (words-of le) (words-of lb) n p k a)
+            → Matchable (part le (child - n)) (part lb (at - p)) child at (J .right-side)
+        right-part J =
+            let skipped : at - p ≡ 2 + weight (J .left-side) = omega (arith, at-is J) in
+            matchable-part le lb (child - n) (at - p) child at (J .right-side)
+            (moved (words-of le) (words-of lb) (child - n) (at - p) child at (J .right-side)
+            (sym (skip-is J)) (sym skipped) (sym (child-is J)) (sym (at-is J)) (J .sides .right-at))
+
+        pub some-right : SomeMatchable (words-of le) (words-of lb) n p → SomeMatchable (part le (child - n)) (part lb (at - p)) child at
+        some-right m = let J = sides-of (m .rule) (m .at) in record { rule = J .right-side; at = right-part J }
+
+        -- the left side leaves it to the right one
+        pub right-holds : (vs : List ℤ) {x y : Bool} → Says le lb 1 2 (n + 1) (p + 2) vs x → Bool·beq x (eqb k 3) ≡ false
+            → Says le lb (child - n) (at - p) child at vs y
+            → (a : Rule) → Matchable (words-of le) (words-of lb) n p a → y ≡ holds a (choice vs)
+        unfolding holds
+        right-holds vs {x} {y} f u g a m =
+            let J = sides-of a m in
+            left-open (J .joint) x y (other-verdict x (eqb k 3) u ∙ ap not (settles k (J .joint) (J .kind)))
+            ∙ ap (λ (z : Bool). joined (J .joint) z y) (f (J .left-side) (left-part J))
+            ∙ ap (joined (J .joint) (holds (J .left-side) (choice vs))) (g (J .right-side) (right-part J))
+            ∙ ap (λ (r : Rule). holds r (choice vs)) (sym (J .is))
+          where
+            left-open : (j : Junction) (x y : Bool) → x ≡ not (settling j) → y ≡ joined j x y
+            left-open and x y e = sym (ap (λ (z : Bool). z && y) e)
+            left-open or x y e = sym (ap (λ (z : Bool). z || y) e)
+
+-- ---- sizes
+
+pub some-words : {es bs : List ℤ} {n p : ℕ} → SomeMatchable es bs n p → (0 < length es) × (0 < length bs)
+some-words m =
+    let r = m .rule in
+    let s = m .at .stands in
+    (omega (arith, inside-entries r s, count-pos r), omega (arith, inside-bodies r s, weight-pos r))
+
+-- the part from word i on: its words, and its bytes, of which there are fewer
+pub part-words : (l : List ℕ) (i : ℕ) → length (part l i) ≡ length (words-of l) - i
+part-words l i = ap length (words-from l i) ∙ length-drop i (words-of l)
+
+pub part-shorter : (l : List ℕ) (i : ℕ) → 0 < i → 0 < length (words-of l) → length (take (length l - i * 4) (drop (i * 4) l)) < length l
+part-shorter l i h w =
+    omega (arith, ap length (part-to-end l (i * 4)), length-drop (i * 4) l, words-length l)
