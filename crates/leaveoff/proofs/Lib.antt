@@ -2,3 +2,4 @@ pub mod Sizes
 pub mod Terms
 pub mod Tests
 pub mod Literals
+pub mod QuantifierLaws

@@ -1,2 +1,3 @@
 // The leave-off test and matching, on lent bytes.
 mod literal;
+mod quantifiers;
