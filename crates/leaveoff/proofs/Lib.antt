@@ -4,3 +4,4 @@ pub mod Tests
 pub mod Literals
 pub mod Values
 pub mod MatchingLaws
+pub mod QuantifierLaws

@@ -1,3 +1,4 @@
 // The leave-off test and matching, on lent bytes.
 mod literal;
 mod matching;
+mod quantifiers;

@@ -9,3 +9,4 @@ pub mod TreeSteps
 pub mod WalkLaws
 pub mod CheckLaws
 pub mod VerdictLaws
+pub mod Passed

@@ -143,15 +143,17 @@ module _ {es bs : List ℤ} {n p : ℕ} where
 
 -- ---- the whole table
 
+pub whole-bodies : (r : Rule) → drop (1 + count r) (encode r) ≡ bodies 0 (nodes r)
+unfolding encode
+whole-bodies r =
+    past (pos (length (nodes r)) ∷ starts (length (nodes r) + 1) (nodes r)) (1 + count r)
+    (omega (arith, length-starts (length (nodes r) + 1) (nodes r), length-nodes r)) (bodies 0 (nodes r))
+
 pub whole-stands : (r : Rule) → Stands (drop 1 (encode r)) (drop (1 + count r) (encode r)) 0 (count r + 1) r
 unfolding encode
 whole-stands r = record {
   entries-after = bodies 0 (nodes r);
   bodies-after = [];
   entries = ap (λ (k : ℕ). starts (k + 1) (nodes r) ++ bodies 0 (nodes r)) (length-nodes r);
-  bodies = past contents (1 + count r) (omega (arith, length-starts (length (nodes r) + 1) (nodes r), length-nodes r)) (bodies 0 (nodes r))
-      ∙ sym (append-nil (bodies 0 (nodes r)));
+  bodies = whole-bodies r ∙ sym (append-nil (bodies 0 (nodes r)));
 }
-  where
-    contents : List ℤ
-    contents = pos (length (nodes r)) ∷ starts (length (nodes r) + 1) (nodes r)

@@ -50,17 +50,18 @@ kinds (bind-node for-all v) g = record { first = λ i. refl; wide = refl; childr
 
 -- ---- the root of some bodies whose first word is k
 
-record Rooted (bs : List ℤ) (n left k : ℕ) (ds : List Node) : Type 0 where
-  root : Node
-  after : List Node
-  is : ds ≡ root ∷ after
-  bodies-are : bs ≡ body n root ++ bodies (n + 1) after
-  good : AllGood after
-  long : length after ≡ left - 1
-  wide : getD widths k 0 ≡ words root
-  children : getD arities k 0 ≡ arity root
+pub record Rooted (bs : List ℤ) (n left k : ℕ) (ds : List Node) : Type 0 where
+  pub root : Node
+  pub after : List Node
+  pub is : ds ≡ root ∷ after
+  pub bodies-are : bs ≡ body n root ++ bodies (n + 1) after
+  pub good : AllGood after
+  pub long : length after ≡ left - 1
+  pub kind-is : k ≡ kind-of root
+  pub wide : getD widths k 0 ≡ words root
+  pub children : getD arities k 0 ≡ arity root
 
-rooted : (bs : List ℤ) (n left k : ℕ) (ds : List Node) → getD bs 0 (pos 0) ≡ signed k → 0 < left
+pub rooted : (bs : List ℤ) (n left k : ℕ) (ds : List Node) → getD bs 0 (pos 0) ≡ signed k → 0 < left
     → bs ≡ bodies n ds → length ds ≡ left → AllGood ds → Rooted bs n left k ds
 unfolding bodies AllGood
 rooted bs n left k [] e h b l g = absurd (omega arith)
@@ -77,11 +78,12 @@ rooted bs n left k (d ∷ ds) e h b l g =
       bodies-are = b;
       good = g .1;
       long = omega arith;
+      kind-is = same;
       wide = ap (λ (m : ℕ). getD widths m 0) same ∙ c .wide;
       children = ap (λ (m : ℕ). getD arities m 0) same ∙ c .children;
     }
 
-behind : (bs : List ℤ) (n left k : ℕ) (ds : List Node) (r : Rooted bs n left k ds) → drop (getD widths k 0) bs ≡ bodies (n + 1) (r .after)
+pub behind : (bs : List ℤ) (n left k : ℕ) (ds : List Node) (r : Rooted bs n left k ds) → drop (getD widths k 0) bs ≡ bodies (n + 1) (r .after)
 behind bs n left k ds r =
     ap (drop (getD widths k 0)) (r .bodies-are)
     ∙ drop-at (body n (r .root)) (bodies (n + 1) (r .after)) (getD widths k 0) (length-body n (r .root) ∙ sym (r .wide))
