@@ -5,3 +5,5 @@ pub mod Literals
 pub mod Values
 pub mod MatchingLaws
 pub mod QuantifierLaws
+pub mod MatchedLaws
+pub mod OutcomeLaws

@@ -2,14 +2,14 @@
 -- Assumes nothing.
 use mathlib.Core.Path.{_≡_, refl, sym, _∙_, ap, subst}
 use mathlib.Core.Bool.{Bool, true, false, not, _&&_, _||_, Bool·beq}
-use mathlib.Core.List.{List, [], _∷_, _++_, append-assoc}
+use mathlib.Core.List.{List, [], _++_, append-assoc}
 use Prim.Native.Nat.{ℕ, _+_, _-_, _*_, _<_, _≤_}
 use native.Mathlib.Omega.{arith}
 use borrow.Rule.Slice.PartAt.{part-to-end}
 use lib.Dec.{eqb}
 use lib.IntN.{ℤ, pos}
 use lib.ListN.{length, getD, take, drop, length-drop}
-use Rattle.rules.specs.Sum.{Sum, Choice, value}
+use Rattle.rules.specs.Sum.{Sum, value}
 use Rattle.rules.specs.Rule.{Junction, and, or, for-some, for-all, Test, positive, divisible, is-zero}
 use Rattle.rules.specs.Rule.{Rule, Constant, Join, Not, Literal, Bind, passes}
 use Rattle.rules.specs.Table.{constant-node, join-node, not-node, literal-node, bind-node, body, bodies, count, nodes}

@@ -1,4 +1,6 @@
 // The leave-off test and matching, on lent bytes.
+pub mod answer;
+pub mod exports;
 mod literal;
-mod matching;
+pub mod matching;
 mod quantifiers;

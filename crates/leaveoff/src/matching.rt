@@ -1,16 +1,27 @@
 // Matching: whether a table's rule holds at six values.
+use crate::answer;
+use crate::answer::Answer;
 use crate::literal;
+use crate::quantifiers;
+use tables::check;
+use tables::check::Checked;
 use tables::words;
 ghost use mathlib.Core.Path.{_≡_};
+ghost use mathlib.Core.Bool.{_&&_};
+ghost use mathlib.Core.List.{[], _∷_};
 ghost use Prim.Native.Nat.{ℕ, _+_, _≤_};
 ghost use lib.Dec.{T};
 ghost use lib.ListN.{length};
+ghost use Rattle.whole.specs.Integers.{within as within-of};
 ghost use Rattle.rules.specs.Sum.{Sum, all-within, value};
 ghost use Rattle.rules.specs.Rule.{Test, Rule, passes};
 ghost use Rattle.rules.specs.Match.{most-value, choice, holds as holds-at};
-ghost use Rattle.rules.specs.Calls.{words as words-of};
+ghost use Rattle.rules.specs.Calls.{words as words-of, rule-of, matched};
+ghost use Rattle.tables.specs.Checks.{Verdict};
+ghost use Rattle.tables.specs.declared.check.Checked.the-variants.{Table};
 ghost use Rattle.leaveoff.specs.Literal.{LiteralAt, SomeLiteral};
 ghost use Rattle.leaveoff.specs.Matching.{Matchable, SomeMatchable};
+ghost use Rattle.leaveoff.specs.Outcome.{answer-of, SaysWhether};
 
 // Whether the literal whose body starts these words holds at the values.
 fn literal_holds(bodies: &[u8], values: &[i32]) -> bool
@@ -59,4 +70,59 @@ fn verdict(entries: &[u8], bodies: &[u8], node: usize, place: usize, values: &[i
     let before = skip * 4;
     let from = (at - place) * 4;
     verdict(&entries[before..], &bodies[from..], child, at, values)
+}
+
+// Whether v lies within ±500,000,000, and the values behind it do.
+fn within(v: i32, behind: bool) -> bool
+    ensures { λ r. ⌜ r ≡ (within-of most-value v && behind) ⌝ }
+{
+    if v < -500000000 {
+        return false;
+    }
+    if 500000000 < v {
+        return false;
+    }
+    behind
+}
+
+// Whether all six values do. The last is looked at first, as the definition has it.
+fn all_within(s1: i32, s2: i32, s3: i32, s4: i32, s5: i32, s6: i32) -> bool
+    ensures { λ r. ⌜ r ≡ all-within most-value (s1 ∷ s2 ∷ s3 ∷ s4 ∷ s5 ∷ s6 ∷ []) ⌝ }
+{
+    let b6 = within(s6, true);
+    let b5 = within(s5, b6);
+    let b4 = within(s4, b5);
+    let b3 = within(s3, b4);
+    let b2 = within(s2, b3);
+    within(s1, b2)
+}
+
+// Matching a table that passed the check, of n nodes: 10, then 9, then whether it holds.
+fn match_rule(t: &[u8], n: usize, s1: i32, s2: i32, s3: i32, s4: i32, s5: i32, s6: i32) -> Answer
+    requires { ⌜ Verdict (rule-of (now t)) (Table n) ⌝ }
+    ensures { λ r. ⌜ answer-of r ≡ matched (now (t .entry)) s1 s2 s3 s4 s5 s6 ⌝ }
+{
+    let from = (n + 1) * 4;
+    if quantifiers::quantified(&t[from..], n) {
+        return answer::refused(10);
+    }
+    if !all_within(s1, s2, s3, s4, s5, s6) {
+        return answer::refused(9);
+    }
+    let values = [s1, s2, s3, s4, s5, s6];
+    if verdict(&t[4..], &t[from..], 0, n + 1, &values) {
+        return answer::matched(1);
+    }
+    answer::matched(2)
+}
+
+// Matching, on any bytes and any six values.
+pub fn matches(t: &[u8], s1: i32, s2: i32, s3: i32, s4: i32, s5: i32, s6: i32) -> Answer
+    ensures { λ r. ⌜ answer-of r ≡ matched (now (t .entry)) s1 s2 s3 s4 s5 s6 ⌝ }
+    ensures { λ r. ⌜ SaysWhether (now (t .entry)) (s1 ∷ s2 ∷ s3 ∷ s4 ∷ s5 ∷ s6 ∷ []) (answer-of r) ⌝ }
+{
+    match check::check(t) {
+        Checked::Not(k) => answer::refused(k),
+        Checked::Table(n) => match_rule(t, n, s1, s2, s3, s4, s5, s6),
+    }
 }

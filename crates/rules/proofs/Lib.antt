@@ -1,4 +1,5 @@
 pub mod Refusals
+pub mod Numbers
 pub mod Sums
 pub mod Meaning
 pub mod Folding

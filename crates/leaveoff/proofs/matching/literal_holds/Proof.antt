@@ -13,36 +13,28 @@ use Rattle.leaveoff.proofs.matching.literal_holds.Reads as reads
 use Rattle.leaveoff.proofs.matching.literal_holds.Lts as lts
 use Rattle.leaveoff.proofs.literal.holds.Reads as holds-reads
 
--- src/matching.rt:21:28
 shared-slice-copy-out-holds : tie.Need-shared-slice-copy-out-holds
 shared-slice-copy-out-holds c = search needs
 
--- src/matching.rt:21:39
 shared-slice-copy-out-holds-2 : tie.Need-shared-slice-copy-out-holds-2
 shared-slice-copy-out-holds-2 c = search needs
 
--- src/matching.rt:21:50
 shared-slice-copy-out-holds-3 : tie.Need-shared-slice-copy-out-holds-3
 shared-slice-copy-out-holds-3 c = search needs
 
--- src/matching.rt:21:61
 shared-slice-copy-out-holds-4 : tie.Need-shared-slice-copy-out-holds-4
 shared-slice-copy-out-holds-4 c = search needs
 
--- src/matching.rt:21:72
 shared-slice-copy-out-holds-5 : tie.Need-shared-slice-copy-out-holds-5
 shared-slice-copy-out-holds-5 c = search needs
 
--- src/matching.rt:21:83
 shared-slice-copy-out-holds-6 : tie.Need-shared-slice-copy-out-holds-6
 shared-slice-copy-out-holds-6 c = search needs
 
--- src/matching.rt:21:5
 holds-requires : tie.Need-holds-requires
 holds-requires c κs = let listed = values-read (c .before .before .before .before .before .before .before .args .values .now) (c .before .before .before .before .before .before .before .pre .1) (c .before .before .before .before .before .before .before .pre .2) in
     (c .before .before .before .before .before .before .before .pre .0, subst (λ (vs : List ℤ). T (all-within most-value vs)) (sym listed) (c .before .before .before .before .before .before .before .pre .2))
 
--- src/matching.rt:16:1
 returns : tie.Need-returns
 returns c = λ n t s l.
     c .holds .ensures n t s l

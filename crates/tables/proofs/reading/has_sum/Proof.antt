@@ -1,7 +1,6 @@
 -- `reading::has_sum` meets its contract: seven words are there and lie within the limit.
 -- Assumes nothing.
 use borrow.Author.Needs.{needs}
-use Rattle.rules.specs.Calls.{words}
 use Rattle.tables.proofs.Fields.{no-sum, a-sum}
 use Rattle.tables.proofs.reading.has_sum.Statement.{statement}
 use Rattle.tables.proofs.reading.has_sum.Tie as tie

@@ -1,0 +1,47 @@
+use Rattle.leaveoff.proofs.Values.{and-behind}
+use Rattle.rules.specs.Sum.{all-within}
+use mathlib.Core.List.{[]}
+use mathlib.Core.Path.{refl}
+use borrow.Author.Needs.{needs}
+use Rattle.leaveoff.proofs.matching.all_within.Statement.{statement}
+use Rattle.leaveoff.proofs.matching.all_within.Tie as tie
+use Rattle.leaveoff.proofs.matching.all_within.Reads as reads
+use Rattle.leaveoff.proofs.matching.all_within.Lts as lts
+use Rattle.leaveoff.proofs.matching.within.Reads as within-reads
+
+within-requires : tie.Need-within-requires
+within-requires c κs = search needs
+
+within-requires-2 : tie.Need-within-requires-2
+within-requires-2 c κs = search needs
+
+within-requires-3 : tie.Need-within-requires-3
+within-requires-3 c κs = search needs
+
+within-requires-4 : tie.Need-within-requires-4
+within-requires-4 c κs = search needs
+
+within-requires-5 : tie.Need-within-requires-5
+within-requires-5 c κs = search needs
+
+within-requires-6 : tie.Need-within-requires-6
+within-requires-6 c κs = search needs
+
+returns : tie.Need-returns
+returns c =
+    let f = c .before .before .before .before .before .before .fits in
+    and-behind _ _ (f .s1) (c .within6 .ensures) (and-behind _ _ (f .s2) (c .before .within5 .ensures)
+    (and-behind _ _ (f .s3) (c .before .before .within4 .ensures) (and-behind _ _ (f .s4) (c .before .before .before .within3 .ensures)
+    (and-behind _ _ (f .s5) (c .before .before .before .before .within2 .ensures) (and-behind _ [] (f .s6) (c .before .before .before .before .before .within .ensures) (unfold all-within in refl))))))
+
+pub all-within-spec : {M : Type 1} → statement M
+all-within-spec =
+    tie.close
+    (tie.spec
+    within-requires
+    within-requires-2
+    within-requires-3
+    within-requires-4
+    within-requires-5
+    within-requires-6
+    returns)

@@ -1,0 +1,24 @@
+// The calls as a C program or a Rust service links them: each answer packed into 64 bits.
+use crate::answer;
+use crate::matching;
+ghost use mathlib.Core.Path.{_≡_};
+ghost use mathlib.Core.List.{[], _∷_};
+ghost use Rattle.rules.specs.Calls.{matched};
+ghost use Rattle.leaveoff.specs.Outcome.{SaysWhether, packed, unpacked};
+
+// Matching, on any bytes and any six values.
+#[no_mangle]
+pub extern "C" fn leaveoff_match(
+    table: &[u8],
+    s1: i32,
+    s2: i32,
+    s3: i32,
+    s4: i32,
+    s5: i32,
+    s6: i32,
+) -> u64
+    ensures { λ r. ⌜ r ≡ packed (matched (now (table .entry)) s1 s2 s3 s4 s5 s6) ⌝ }
+    ensures { λ r. ⌜ SaysWhether (now (table .entry)) (s1 ∷ s2 ∷ s3 ∷ s4 ∷ s5 ∷ s6 ∷ []) (unpacked r) ⌝ }
+{
+    answer::pack(matching::matches(table, s1, s2, s3, s4, s5, s6))
+}
