@@ -100,7 +100,8 @@ words-set (a ∷ b ∷ c ∷ []) i v f h = absurd (omega arith)
 words-set (a ∷ b ∷ c ∷ d ∷ l) zero v f h =
     ap (λ (w : ℤ). w ∷ words l) (ap signed (four-bytes (bits v) (bits-low v f)) ∙ signed-bits v f)
 words-set (a ∷ b ∷ c ∷ d ∷ l) (suc i) v f h =
-    rw (next i) (ap (λ (ws : List ℤ). signed (a + 256 * (b + 256 * (c + 256 * d))) ∷ ws) (words-set l i v f (omega arith)))
+    rw (next i)
+    (ap (λ (ws : List ℤ). signed (a + 256 * (b + 256 * (c + 256 * d))) ∷ ws) (words-set l i v f (omega arith)))
 
 -- a store of the bits of v
 pub words-put : (l m : List ℕ) (i u : ℕ) (v : ℤ) → SFits w32 v → i < length (words l) → u ≡ bits v
