@@ -22,7 +22,9 @@ use Rattle.rules.proofs.Decoding.{trees-forth, only-forth}
 
 pub tree-given : (r : Rule) → (trees (nodes r) >>= only-tree) ≡ given r
 unfolding trees only-tree
-tree-given r = then only-tree (subst (λ (ds : List Node). trees ds ≡ given (r ∷ [])) (append-nil (nodes r)) (trees-nodes r [] [] refl))
+tree-given r =
+    then only-tree
+    (subst (λ (ds : List Node). trees ds ≡ given (r ∷ [])) (append-nil (nodes r)) (trees-nodes r [] [] refl))
 
 pub tree-forth : (ds : List Node) (r : Rule) → (trees ds >>= only-tree) ≡ given r → ds ≡ nodes r
 tree-forth ds r e =
@@ -90,7 +92,8 @@ arity (bind-node q v) = 1
 pub data Root (r : Rule) : Type 0 where
   leaf : (d : Node) → arity d ≡ 0 → nodes r ≡ d ∷ [] → count r ≡ 1 → Root r
   one : (d : Node) (a : Rule) → arity d ≡ 1 → nodes r ≡ d ∷ nodes a → count r ≡ 1 + count a → Root r
-  two : (d : Node) (a b : Rule) → arity d ≡ 2 → nodes r ≡ d ∷ nodes a ++ nodes b → count r ≡ 1 + count a + count b → Root r
+  two : (d : Node) (a b : Rule) → arity d ≡ 2 → nodes r ≡ d ∷ nodes a ++ nodes b → count r ≡ 1 + count a + count b
+      → Root r
 
 pub root : (r : Rule) → Root r
 unfolding nodes arity
@@ -121,10 +124,13 @@ same-count : (n : ℕ) (r s : Rule) (x y : List Node) → count r ≤ n → node
 same-count zero r s x y h e = absurd (omega (arith, count-pos r))
 same-count (suc n) r s x y h e = go (root r) (root s) (same-count n)
   where
-    clash : {X : Type 0} {c d : Node} {l m : List Node} (i j : ℕ) → ¬ (i ≡ j) → arity c ≡ i → arity d ≡ j → nodes r ≡ c ∷ l → nodes s ≡ d ∷ m → X
+    clash : {X : Type 0} {c d : Node} {l m : List Node} (i j : ℕ) → ¬ (i ≡ j) → arity c ≡ i → arity d ≡ j
+        → nodes r ≡ c ∷ l → nodes s ≡ d ∷ m → X
     clash i j n u v k l = absurd (n (same-arity (heads x y k l e .0) u v))
 
-    go : Root r → Root s → ((a b : Rule) (u v : List Node) → count a ≤ n → nodes a ++ u ≡ nodes b ++ v → count a ≡ count b) → count r ≡ count s
+    go : Root r → Root s
+        → ((a b : Rule) (u v : List Node) → count a ≤ n → nodes a ++ u ≡ nodes b ++ v → count a ≡ count b)
+        → count r ≡ count s
     go (leaf c i k l) (leaf d i′ k′ l′) same = l ∙ sym l′
     go (leaf c i k l) (one d b i′ k′ l′) same = clash 0 1 (omega arith) i i′ k k′
     go (leaf c i k l) (two d b b′ i′ k′ l′) same = clash 0 2 (omega arith) i i′ k k′
@@ -137,7 +143,8 @@ same-count (suc n) r s x y h e = go (root r) (root s) (same-count n)
         let rest : nodes a ++ (nodes a′ ++ x) ≡ nodes b ++ (nodes b′ ++ y) =
         sym (append-assoc (nodes a) (nodes a′) x) ∙ heads x y k k′ e .1 ∙ append-assoc (nodes b) (nodes b′) y in
         let left : count a ≡ count b = same a b (nodes a′ ++ x) (nodes b′ ++ y) (omega arith) rest in
-        let right : count a′ ≡ count b′ = same a′ b′ x y (omega arith) (after a b (nodes a′ ++ x) (nodes b′ ++ y) left rest) in
+        let right : count a′ ≡ count b′ =
+        same a′ b′ x y (omega arith) (after a b (nodes a′ ++ x) (nodes b′ ++ y) left rest) in
         omega arith
 
 pub count-unique : (r s : Rule) (x y : List Node) → nodes r ++ x ≡ nodes s ++ y → count r ≡ count s

@@ -8,7 +8,20 @@ use lib.ListN.{replicate}
 use Rattle.rules.specs.Rule.{Rule, True, False, Not, And, Or, Some, All}
 use Rattle.rules.specs.Table.{encode}
 use Rattle.rules.specs.Calls.{bytes-of}
-use Rattle.rules.specs.Rows.{Call, elimination, leave-off-test, matching-of, answers, refuses, Row, _gives_, plenty, all-right, minus, words}
+use Rattle.rules.specs.Rows.{
+  Call,
+  elimination,
+  leave-off-test,
+  matching-of,
+  answers,
+  refuses,
+  Row,
+  _gives_,
+  plenty,
+  all-right,
+  minus,
+  words,
+}
 use Rattle.rules.specs.Rows.{x, y, z, num, _plus_, _less_, _times_, Positive, _divides_, _divides-not_, IsZero}
 use Rattle.rules.specs.Rows.{eliminating, leaving-off, some-x, reading, to-true, to-false, to}
 use Rattle.rules.specs.Examples.{doubled, even}

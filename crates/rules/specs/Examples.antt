@@ -5,8 +5,33 @@ use lib.Dec.{T}
 use lib.IntN.{ℤ}
 use Rattle.rules.specs.Rule.{Rule, Not, And, Or, Some, All}
 use Rattle.rules.specs.Calls.{bytes-of}
-use Rattle.rules.specs.Rows.{elimination, answers, refuses, Row, _gives_, meets, plenty, all-right, minus, words, x, num, _less_, _times_}
-use Rattle.rules.specs.Rows.{Positive, _divides_, _divides-not_, eliminating, leaving-off, some-x, reading, to-true, to-false}
+use Rattle.rules.specs.Rows.{
+  elimination,
+  answers,
+  refuses,
+  Row,
+  _gives_,
+  meets,
+  plenty,
+  all-right,
+  minus,
+  words,
+  x,
+  num,
+  _less_,
+  _times_,
+}
+use Rattle.rules.specs.Rows.{
+  Positive,
+  _divides_,
+  _divides-not_,
+  eliminating,
+  leaving-off,
+  some-x,
+  reading,
+  to-true,
+  to-false,
+}
 
 -- the first example: 2·s1 = s2 for some s1, and 2 divides s2
 abbrev pub doubled : List ℤ

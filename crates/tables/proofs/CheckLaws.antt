@@ -40,9 +40,13 @@ carries-itself x = record { refusal = λ k e. e; whole = λ a e. (a, e) }
 
 -- where y goes on from x without refusing
 goes-on : {A B : Type 0} (x : Result A) (f : A → B) → Carries x (x >>= λ a. given (f a))
-goes-on x f = unfold _>>=_ in record { refusal = λ k e. ap (λ r. r >>= λ a. given (f a)) e; whole = λ a e. (f a, ap (λ r. r >>= λ a. given (f a)) e) }
+goes-on x f = unfold _>>=_ in record {
+  refusal = λ k e. ap (λ r. r >>= λ a. given (f a)) e;
+  whole = λ a e. (f a, ap (λ r. r >>= λ a. given (f a)) e);
+}
 
-pub carries-trans : {A B C : Type 0} {x : Result A} {y : Result B} {z : Result C} → Carries x y → Carries y z → Carries x z
+pub carries-trans : {A B C : Type 0} {x : Result A} {y : Result B} {z : Result C} → Carries x y → Carries y z
+    → Carries x z
 carries-trans c d = record {
   refusal = λ k e. d .refusal k (c .refusal k e);
   whole = λ a e. let (b, f) = c .whole a e in d .whole b f;
@@ -87,10 +91,14 @@ module _ (W : List ℤ) (n i p : ℕ) (h : i < n) (l : n < length W) where
 
   pub next-node : (d : Node) → getD W (i + 1) (pos 0) ≡ pos p → node i (drop p W) ≡ given (d, drop (width d) (drop p W))
       → Carries (rest W n (i + 1) (p + width d)) (rest W n i p)
-  next-node d e f = subst (Carries (rest W n (i + 1) (p + width d))) (sym (right-entry e ∙ then onward f ∙ on)) (goes-on (rest W n (i + 1) (p + width d)) (λ ds. d ∷ ds))
+  next-node d e f =
+      subst (Carries (rest W n (i + 1) (p + width d))) (sym (right-entry e ∙ then onward f ∙ on))
+      (goes-on (rest W n (i + 1) (p + width d)) (λ ds. d ∷ ds))
     where
       on : onward (d, drop (width d) (drop p W)) ≡ (rest W n (i + 1) (p + width d) >>= λ ds. given (d ∷ ds))
-      on = ap (λ (ws : List ℤ). read (i + 1) (take (n - (i + 1)) (drop (i + 1 + 1) W)) (p + width d) ws >>= λ ds. given (d ∷ ds)) (drop-drop (width d) p W)
+      on =
+          let entries = take (n - (i + 1)) (drop (i + 1 + 1) W) in
+          ap (λ (ws : List ℤ). read (i + 1) entries (p + width d) ws >>= λ ds. given (d ∷ ds)) (drop-drop (width d) p W)
 
 -- ---- the end
 
@@ -98,7 +106,9 @@ none-left : (W : List ℤ) (n i : ℕ) → n ≤ i → take (n - i) (drop (i + 1
 none-left W n i h = ap (λ (m : ℕ). take m (drop (i + 1) W)) (let e : n - i ≡ 0 = omega arith in e)
 
 pub at-the-end : (W : List ℤ) (n i p : ℕ) → n ≤ i → p ≡ length W → rest W n i p ≡ given []
-at-the-end W n i p h e = ap (λ (es : List ℤ). read i es p (drop p W)) (none-left W n i h) ∙ ap (read i [] p) (past-all p e) ∙ unfold read in refl
+at-the-end W n i p h e =
+    ap (λ (es : List ℤ). read i es p (drop p W)) (none-left W n i h)
+    ∙ ap (read i [] p) (past-all p e) ∙ unfold read in refl
   where
     past-all : (q : ℕ) → q ≡ length W → drop q W ≡ []
     past-all q e = drop-of-length-le W (let l : length W ≤ q = omega arith in l)
@@ -110,7 +120,8 @@ before-the-end W n i p h l =
 
 -- ---- the loop over the nodes: each way out of it, and the next turn
 
-pub still-inside : (W : List ℤ) (p : ℕ) {ws : List ℤ} {i k next : ℕ} → p ≤ length W → ws ≡ drop p W → NodeRead ws p i k next
+pub still-inside : (W : List ℤ) (p : ℕ) {ws : List ℤ} {i k next : ℕ} → p ≤ length W → ws ≡ drop p W
+    → NodeRead ws p i k next
     → next ≤ length W
 still-inside W p h at d = omega (arith, d .inside, d .ends, ap length at, length-drop p W)
 
@@ -119,13 +130,15 @@ module _ {A : Type 0} (W : List ℤ) (n i p : ℕ) (x : Result A) (c : Carries (
   unfolding Judged
   entry-refused r h l e f = c .refusal 2 (wrong-entry W n i p h l (λ k. f (number-of r p (sym e ∙ k))))
 
-  pub body-refused : (r k : ℕ) (ws : List ℤ) → i < n → n < length W → getD W (i + 1) (pos 0) ≡ signed r → r ≡ p → p < 2147483648
+  pub body-refused : (r k : ℕ) (ws : List ℤ) → i < n → n < length W → getD W (i + 1) (pos 0) ≡ signed r → r ≡ p
+      → p < 2147483648
       → ws ≡ drop p W → node i ws ≡ refused k → Judged x (Not k)
   unfolding Judged
   body-refused r k ws h l e same low at f =
       c .refusal k (bad-body W n i p h l k (e ∙ number-is r p low same) (ap (node i) (sym at) ∙ f))
 
-  pub node-passed : (r k next : ℕ) (ws : List ℤ) → i < n → n < length W → getD W (i + 1) (pos 0) ≡ signed r → r ≡ p → p < 2147483648
+  pub node-passed : (r k next : ℕ) (ws : List ℤ) → i < n → n < length W → getD W (i + 1) (pos 0) ≡ signed r → r ≡ p
+      → p < 2147483648
       → ws ≡ drop p W → NodeRead ws p i k next → Carries (rest W n (i + 1) next) x
   node-passed r k next ws h l e same low at d =
       let reads : node i (drop p W) ≡ given (d .it, drop (width (d .it)) (drop p W)) =
@@ -193,7 +206,8 @@ too-long (pos k) ws h = test-first k ws (λ t. absurd (omega (arith, leb→le (s
     both = T-and (leb (suc (length ws)) most-words) (leb 1 k) .0
 
 -- no words, or too many
-pub size-refused : (l : List ℕ) → length l % 4 ≡ 0 → (length (words l) ≡ 0) ⊎ (most-words < length (words l)) → rule-of l ≡ refused 1
+pub size-refused : (l : List ℕ) → length l % 4 ≡ 0 → (length (words l) ≡ 0) ⊎ (most-words < length (words l))
+    → rule-of l ≡ refused 1
 size-refused l e h = whole-words l e ∙ go (words l) h
   where
     go : (W : List ℤ) → (length W ≡ 0) ⊎ (most-words < length W) → decode W ≡ refused 1
@@ -214,11 +228,15 @@ decode-count (pos k) ws n e h = go (T-dec (leb (suc (length ws)) most-words && l
     short (suc n) [] h = refl
     short (suc n) (w ∷ ws) h = if-refused _ (short n ws (omega arith))
 
-    go : Dec (T (leb (suc (length ws)) most-words && leb 1 k)) → (n < 1) ⊎ (length ws < n) → decode (pos k ∷ ws) ≡ refused 1
+    go : Dec (T (leb (suc (length ws)) most-words && leb 1 k)) → (n < 1) ⊎ (length ws < n)
+        → decode (pos k ∷ ws) ≡ refused 1
     go (no f) h = test-first k ws f
-    go (yes t) (inl h) = absurd (omega (arith, same, leb→le 1 k (T-and (leb (suc (length ws)) most-words) (leb 1 k) .0 t .1)))
+    go (yes t) (inl h) =
+        let some = leb→le 1 k (T-and (leb (suc (length ws)) most-words) (leb 1 k) .0 t .1) in
+        absurd (omega (arith, same, some))
     go (yes t) (inr h) =
-        then _ (passed (leb (suc (length ws)) most-words && leb 1 k) 1 t) ∙ if-refused _ (short k ws (omega (arith, same)))
+        then _ (passed (leb (suc (length ws)) most-words && leb 1 k) 1 t)
+        ∙ if-refused _ (short k ws (omega (arith, same)))
 
 -- n below 1, or n + 1 over the length
 pub count-refused : (l : List ℕ) (n : ℕ) → length l % 4 ≡ 0 → getD (words l) 0 (pos 0) ≡ signed n → 0 < length (words l)
@@ -242,11 +260,13 @@ pub record Sized (l : List ℕ) (n : ℕ) : Type 0 where
 pub rule-is : (l : List ℕ) (n : ℕ) → Sized l n → rule-of l ≡ (rest (words l) n 0 (n + 1) >>= tree-of)
 rule-is l n s = whole-words l (s .whole) ∙ go (words l) (s .first) (s .inside) (s .most)
   where
-    go : (W : List ℤ) → getD W 0 (pos 0) ≡ signed n → n < length W → length W ≤ most-words → decode W ≡ (rest W n 0 (n + 1) >>= tree-of)
+    go : (W : List ℤ) → getD W 0 (pos 0) ≡ signed n → n < length W → length W ≤ most-words
+        → decode W ≡ (rest W n 0 (n + 1) >>= tree-of)
     go [] f h m = absurd (omega arith)
     go (w ∷ ws) f h m =
         let e : w ≡ pos n = f ∙ signed-low n (omega arith) in
-        subst (λ (v : ℤ). decode (v ∷ ws) ≡ (rest (v ∷ ws) n 0 (n + 1) >>= tree-of)) (sym e) (decode-is n ws (s .some) (omega arith) m)
+        subst (λ (v : ℤ). decode (v ∷ ws) ≡ (rest (v ∷ ws) n 0 (n + 1) >>= tree-of)) (sym e)
+        (decode-is n ws (s .some) (omega arith) m)
 
 pub nodes-refused : (l : List ℕ) (n k : ℕ) → Sized l n → rest (words l) n 0 (n + 1) ≡ refused k → rule-of l ≡ refused k
 nodes-refused l n k s e = rule-is l n s ∙ if-refused tree-of e
@@ -272,7 +292,8 @@ module _ (l : List ℕ) (n : ℕ) (ds : List Node) (s : Sized l n) (e : rest (wo
 
   pub is-a-rule : (m q : ℕ) → TreeOf ds (Ends m q) → m ≡ n → Verdict (rule-of l) (Table n)
   unfolding TreeOf Verdict tree-of
-  is-a-rule m q (r, f, i, c, w) u = (r, read-whole ∙ ap (λ (g : List Node). trees g >>= only-tree) alone ∙ tree-given r, sym u ∙ c)
+  is-a-rule m q (r, f, i, c, w) u =
+      (r, read-whole ∙ ap (λ (g : List Node). trees g >>= only-tree) alone ∙ tree-given r, sym u ∙ c)
     where
       none : f ≡ []
       none = no-length f (omega (arith, ap length i, length-append (nodes r) f, length-nodes r, were-read l n ds s e .1))
@@ -290,8 +311,11 @@ module _ (l : List ℕ) (n : ℕ) (ds : List Node) (s : Sized l n) (e : rest (wo
 
   pub nodes-left : (m q : ℕ) → TreeOf ds (Ends m q) → ¬ (m ≡ n) → rule-of l ≡ refused 4
   unfolding TreeOf
-  nodes-left m q (r, f, i, c, w) u = no-rule (λ t k. u (c ∙ count-unique r t f [] (sym i ∙ k ∙ sym (append-nil (nodes t))) ∙ all t k))
+  nodes-left m q (r, f, i, c, w) u = no-rule (λ t k. u (c ∙ same t k ∙ all t k))
     where
+      same : (t : Rule) → ds ≡ nodes t → count r ≡ count t
+      same t k = count-unique r t f [] (sym i ∙ k ∙ sym (append-nil (nodes t)))
+
       all : (t : Rule) → ds ≡ nodes t → count t ≡ n
       all t k = sym (length-nodes t) ∙ ap length (sym k) ∙ were-read l n ds s e .1
 

@@ -192,3 +192,23 @@ module _ (ws : List ℤ) (p : ℕ) {r : Reading} where
   pub node-refused : {n : ℕ} → r ≡ Refused n → NodeAt ws p r → (i : ℕ) → node i ws ≡ refused n
   unfolding NodeAt
   node-refused e h = subst (NodeAt ws p) e h
+
+same-node : {a b : Node × List ℤ} → given a ≡ given b → a .0 ≡ b .0
+same-node {a = a} {b = b} h = ap (λ (q : Node × List ℤ). q .0) (let same : a ≡ b = cc in same)
+
+-- any two readings of the same words are equal
+pub reading-unique : (ws : List ℤ) (p : ℕ) (r s : Reading) → NodeAt ws p r → NodeAt ws p s → r ≡ s
+unfolding NodeAt
+reading-unique ws p (Whole k n) (Whole j m) h g =
+    let a = h 0 in
+    let b = g 0 in
+    let same : a .it ≡ b .it = same-node (sym (a .reads) ∙ b .reads) in
+    let kind : k .kind ≡ j .kind = ap natAbs (sym (a .kind-word) ∙ b .kind-word) in
+    let next : n ≡ m = a .ends ∙ ap (λ (d : Node). p + width d) same ∙ sym (b .ends) in
+    ap (λ (x : ℕ). Whole (record { kind = x }) n) kind ∙ ap (Whole j) next
+reading-unique ws p (Whole k n) (Refused j) h g = never (sym (g 0) ∙ h 0 .reads)
+reading-unique ws p (Refused k) (Whole j m) h g = never (sym (h 0) ∙ g 0 .reads)
+reading-unique ws p (Refused k) (Refused j) h g =
+    let one = h 0 in
+    let other = g 0 in
+    cc

@@ -54,7 +54,12 @@ below (negsuc n) f t =
     let n-fits = f .sfits in
     let sum : (negsuc n) +ℤ pos (2 ^ 32) ≡ pos (2 ^ 32 - suc n) = rw (le-ltb (2 ^ 32) (suc n) (omega arith)) in
     rw sum
-    (record { fits = record { sfits = omega arith }; natural = tt; low = record { fits = omega arith }; same = omega arith })
+    (record {
+      fits = record { sfits = omega arith };
+      natural = tt;
+      low = record { fits = omega arith };
+      same = omega arith;
+    })
 
 pub not-below : (v : ℤ) → SFits w32 v → ltZ v (pos 0) ≡ false → Carries v v
 not-below (pos n) f t =

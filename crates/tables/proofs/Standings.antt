@@ -22,13 +22,17 @@ width-is d = length-body 0 d
 pub starts-append : (p : ℕ) (ds fs : List Node) → starts p (ds ++ fs) ≡ starts p ds ++ starts (p + total ds) fs
 unfolding starts total
 starts-append p [] fs = ap (λ (q : ℕ). starts q fs) (omega arith)
-starts-append p (d ∷ ds) fs = ap (λ (l : List ℤ). pos p ∷ l) (starts-append (p + width d) ds fs ∙ ap (λ (q : ℕ). starts (p + width d) ds ++ starts q fs) (omega (arith, width-is d)))
+starts-append p (d ∷ ds) fs =
+    let on : p + width d + total ds ≡ p + total (d ∷ ds) = omega (arith, width-is d) in
+    ap (λ (l : List ℤ). pos p ∷ l)
+    (starts-append (p + width d) ds fs ∙ ap (λ (q : ℕ). starts (p + width d) ds ++ starts q fs) on)
 
 pub bodies-append : (n : ℕ) (ds fs : List Node) → bodies n (ds ++ fs) ≡ bodies n ds ++ bodies (n + length ds) fs
 unfolding bodies
 bodies-append n [] fs = ap (λ (m : ℕ). bodies m fs) (omega arith)
 bodies-append n (d ∷ ds) fs =
-    ap (λ (l : List ℤ). body n d ++ l) (bodies-append (n + 1) ds fs ∙ ap (λ (m : ℕ). bodies (n + 1) ds ++ bodies m fs) (omega arith))
+    ap (λ (l : List ℤ). body n d ++ l)
+    (bodies-append (n + 1) ds fs ∙ ap (λ (m : ℕ). bodies (n + 1) ds ++ bodies m fs) (omega arith))
     ∙ sym (append-assoc (body n d) (bodies (n + 1) ds) (bodies (n + suc (length ds)) fs))
 
 past : (xs : List ℤ) (k : ℕ) → length xs ≡ k → (ys : List ℤ) → drop k (xs ++ ys) ≡ ys
@@ -42,24 +46,29 @@ module _ {es bs : List ℤ} {n p : ℕ} where
   first ds fs s = record {
     entries-after = starts (p + total ds) fs ++ s .entries-after;
     bodies-after = bodies (n + length ds) fs ++ s .bodies-after;
-    entries = s .entries ∙ ap (λ (l : List ℤ). l ++ s .entries-after) (starts-append p ds fs) ∙ append-assoc (starts p ds) (starts (p + total ds) fs) (s .entries-after);
-    bodies = s .bodies ∙ ap (λ (l : List ℤ). l ++ s .bodies-after) (bodies-append n ds fs) ∙ append-assoc (bodies n ds) (bodies (n + length ds) fs) (s .bodies-after);
+    entries = s .entries ∙ ap (λ (l : List ℤ). l ++ s .entries-after) (starts-append p ds fs)
+        ∙ append-assoc (starts p ds) (starts (p + total ds) fs) (s .entries-after);
+    bodies = s .bodies ∙ ap (λ (l : List ℤ). l ++ s .bodies-after) (bodies-append n ds fs)
+        ∙ append-assoc (bodies n ds) (bodies (n + length ds) fs) (s .bodies-after);
   }
 
   -- and those that follow them
-  pub behind : (ds fs : List Node) → Nodes es bs n p (ds ++ fs) → Nodes (drop (length ds) es) (drop (total ds) bs) (n + length ds) (p + total ds) fs
+  pub behind : (ds fs : List Node) → Nodes es bs n p (ds ++ fs)
+      → Nodes (drop (length ds) es) (drop (total ds) bs) (n + length ds) (p + total ds) fs
   unfolding first
   behind ds fs s =
       let f = first ds fs s in
       record {
         entries-after = s .entries-after;
         bodies-after = s .bodies-after;
-        entries = ap (drop (length ds)) (f .entries) ∙ past (starts p ds) (length ds) (length-starts p ds) (f .entries-after);
+        entries = ap (drop (length ds)) (f .entries)
+            ∙ past (starts p ds) (length ds) (length-starts p ds) (f .entries-after);
         bodies = ap (drop (total ds)) (f .bodies) ∙ past (bodies n ds) (total ds) (length-bodies n ds) (f .bodies-after);
       }
 
   -- the first node
-  pub next : (d : Node) (ds : List Node) → Nodes es bs n p (d ∷ ds) → Nodes (drop 1 es) (drop (words d) bs) (n + 1) (p + words d) ds
+  pub next : (d : Node) (ds : List Node) → Nodes es bs n p (d ∷ ds)
+      → Nodes (drop 1 es) (drop (words d) bs) (n + 1) (p + words d) ds
   unfolding total
   next d ds s = subst (λ (k : ℕ). Nodes (drop 1 es) (drop k bs) (n + 1) (p + k) ds) none-more (behind (d ∷ []) ds s)
     where
@@ -70,17 +79,22 @@ module _ {es bs : List ℤ} {n p : ℕ} where
   unfolding starts
   entry d ds s = ap (λ (l : List ℤ). getD l 0 (pos 0)) (s .entries)
 
-  pub body-word : (d : Node) (ds : List Node) (k : ℕ) → Nodes es bs n p (d ∷ ds) → k < words d → getD bs k (pos 0) ≡ getD (body n d) k (pos 0)
+  pub body-word : (d : Node) (ds : List Node) (k : ℕ) → Nodes es bs n p (d ∷ ds) → k < words d
+      → getD bs k (pos 0) ≡ getD (body n d) k (pos 0)
   unfolding bodies
   body-word d ds k s h =
       ap (λ (l : List ℤ). getD l k (pos 0)) (s .bodies ∙ append-assoc (body n d) (bodies (n + 1) ds) (s .bodies-after))
       ∙ List·getD-append (body n d) (bodies (n + 1) ds ++ s .bodies-after) (pos 0) k (omega (arith, length-body n d))
 
   pub enough-entries : (ds : List Node) → Nodes es bs n p ds → length ds ≤ length es
-  enough-entries ds s = omega (arith, ap length (s .entries), length-append (starts p ds) (s .entries-after), length-starts p ds)
+  enough-entries ds s =
+      let all = ap length (s .entries) ∙ length-append (starts p ds) (s .entries-after) in
+      omega (arith, all, length-starts p ds)
 
   pub enough-bodies : (ds : List Node) → Nodes es bs n p ds → total ds ≤ length bs
-  enough-bodies ds s = omega (arith, ap length (s .bodies), length-append (bodies n ds) (s .bodies-after), length-bodies n ds)
+  enough-bodies ds s =
+      let all = ap length (s .bodies) ∙ length-append (bodies n ds) (s .bodies-after) in
+      omega (arith, all, length-bodies n ds)
 
 -- ---- the parts of a rule
 
@@ -89,32 +103,41 @@ module _ {es bs : List ℤ} {n p : ℕ} where
   unfolding nodes words
   under-not a s = next not-node (nodes a) s
 
-  pub under-bind : (q : Quantifier) (v : ℕ) (a : Rule) → Stands es bs n p (Bind q v a) → Stands (drop 1 es) (drop 2 bs) (n + 1) (p + 2) a
+  pub under-bind : (q : Quantifier) (v : ℕ) (a : Rule) → Stands es bs n p (Bind q v a)
+      → Stands (drop 1 es) (drop 2 bs) (n + 1) (p + 2) a
   unfolding nodes words
   under-bind q v a s = next (bind-node q v) (nodes a) s
 
-  children : (j : Junction) (a b : Rule) → Stands es bs n p (Join j a b) → Nodes (drop 1 es) (drop 2 bs) (n + 1) (p + 2) (nodes a ++ nodes b)
+  children : (j : Junction) (a b : Rule) → Stands es bs n p (Join j a b)
+      → Nodes (drop 1 es) (drop 2 bs) (n + 1) (p + 2) (nodes a ++ nodes b)
   unfolding nodes words
   children j a b s = next (join-node j (pos (1 + count a))) (nodes a ++ nodes b) s
 
-  pub left : (j : Junction) (a b : Rule) → Stands es bs n p (Join j a b) → Stands (drop 1 es) (drop 2 bs) (n + 1) (p + 2) a
+  pub left : (j : Junction) (a b : Rule) → Stands es bs n p (Join j a b)
+      → Stands (drop 1 es) (drop 2 bs) (n + 1) (p + 2) a
   left j a b s = first (nodes a) (nodes b) (children j a b s)
 
   pub right : (j : Junction) (a b : Rule) → Stands es bs n p (Join j a b)
       → Stands (drop (1 + count a) es) (drop (2 + weight a) bs) (n + (1 + count a)) (p + (2 + weight a)) b
-  right j a b s = moved (length (nodes a)) (total (nodes a)) (length-nodes a) (weight-is a) (behind (nodes a) (nodes b) (children j a b s))
+  right j a b s =
+      moved (length (nodes a)) (total (nodes a)) (length-nodes a) (weight-is a)
+      (behind (nodes a) (nodes b) (children j a b s))
     where
-      moved : (c w : ℕ) → c ≡ count a → w ≡ weight a → Nodes (drop c (drop 1 es)) (drop w (drop 2 bs)) (n + 1 + c) (p + 2 + w) (nodes b)
+      moved : (c w : ℕ) → c ≡ count a → w ≡ weight a
+          → Nodes (drop c (drop 1 es)) (drop w (drop 2 bs)) (n + 1 + c) (p + 2 + w) (nodes b)
           → Stands (drop (1 + count a) es) (drop (2 + weight a) bs) (n + (1 + count a)) (p + (2 + weight a)) b
       moved c w e f t = record {
         entries-after = t .entries-after;
         bodies-after = t .bodies-after;
-        entries = ap (λ (k : ℕ). drop (1 + k) es) (sym e) ∙ sym (drop-drop c 1 es) ∙ t .entries ∙ ap (λ (k : ℕ). starts k (nodes b) ++ t .entries-after) (omega arith);
-        bodies = ap (λ (k : ℕ). drop (2 + k) bs) (sym f) ∙ sym (drop-drop w 2 bs) ∙ t .bodies ∙ ap (λ (k : ℕ). bodies k (nodes b) ++ t .bodies-after) (omega arith);
+        entries = ap (λ (k : ℕ). drop (1 + k) es) (sym e) ∙ sym (drop-drop c 1 es) ∙ t .entries
+            ∙ ap (λ (k : ℕ). starts k (nodes b) ++ t .entries-after) (omega arith);
+        bodies = ap (λ (k : ℕ). drop (2 + k) bs) (sym f) ∙ sym (drop-drop w 2 bs) ∙ t .bodies
+            ∙ ap (λ (k : ℕ). bodies k (nodes b) ++ t .bodies-after) (omega arith);
       }
 
   -- "the right child is the first node after the left subtree", and its entry is where the left subtree ends
-  pub right-child : (j : Junction) (a b : Rule) → Stands es bs n p (Join j a b) → getD bs 1 (pos 0) ≡ pos (n + (1 + count a))
+  pub right-child : (j : Junction) (a b : Rule) → Stands es bs n p (Join j a b)
+      → getD bs 1 (pos 0) ≡ pos (n + (1 + count a))
   unfolding nodes words
   right-child j a b s = body-word (join-node j (pos (1 + count a))) (nodes a ++ nodes b) 1 s (omega arith) ∙ second j
     where
@@ -122,7 +145,8 @@ module _ {es bs : List ℤ} {n p : ℕ} where
       second and = unfold body in refl
       second or = unfold body in refl
 
-  pub right-entry : (j : Junction) (a b : Rule) → Stands es bs n p (Join j a b) → getD es (1 + count a) (pos 0) ≡ pos (p + (2 + weight a))
+  pub right-entry : (j : Junction) (a b : Rule) → Stands es bs n p (Join j a b)
+      → getD es (1 + count a) (pos 0) ≡ pos (p + (2 + weight a))
   right-entry j a b s = from-drop es (1 + count a) ∙ head b (right j a b s)
     where
       from-drop : (l : List ℤ) (k : ℕ) → getD l k (pos 0) ≡ getD (drop k l) 0 (pos 0)

@@ -41,7 +41,8 @@ a-leaf (bind-node q v) ds e = absurd (omega arith)
 -- ---- one child
 
 -- a node over the rule of its only child
-over : (d : Node) → arity d ≡ 1 → (a : Rule) → (r : Rule) × (nodes r ≡ d ∷ nodes a) × (count r ≡ 1 + count a) × (weight r ≡ words d + weight a)
+over : (d : Node) → arity d ≡ 1 → (a : Rule)
+    → (r : Rule) × (nodes r ≡ d ∷ nodes a) × (count r ≡ 1 + count a) × (weight r ≡ words d + weight a)
 unfolding nodes arity words weight
 over (constant-node b) e a = absurd (omega arith)
 over (join-node j right) e a = absurd (omega arith)
@@ -50,14 +51,19 @@ over (literal-node t s) e a = absurd (omega arith)
 over (bind-node q v) e a = (Bind q v a, refl, refl, refl)
 
 -- and back
-under : (d : Node) (ds : List Node) (r : Rule) (f : List Node) → arity d ≡ 1 → d ∷ ds ≡ nodes r ++ f → (a : Rule) × (ds ≡ nodes a ++ f)
-under d ds (Constant b) f i e = unfold nodes arity in absurd (let h : d ≡ constant-node b = cc in omega (arith, ap arity h))
-under d ds (Join j a b) f i e = unfold nodes arity in absurd (let h : d ≡ join-node j (pos (1 + count a)) = cc in omega (arith, ap arity h))
+under : (d : Node) (ds : List Node) (r : Rule) (f : List Node) → arity d ≡ 1 → d ∷ ds ≡ nodes r ++ f
+    → (a : Rule) × (ds ≡ nodes a ++ f)
+under d ds (Constant b) f i e = unfold nodes arity in
+    absurd (let h : d ≡ constant-node b = cc in omega (arith, ap arity h))
+under d ds (Join j a b) f i e = unfold nodes arity in
+    absurd (let h : d ≡ join-node j (pos (1 + count a)) = cc in omega (arith, ap arity h))
 under d ds (Not a) f i e = unfold nodes in (a, cc)
-under d ds (Literal t s) f i e = unfold nodes arity in absurd (let h : d ≡ literal-node t s = cc in omega (arith, ap arity h))
+under d ds (Literal t s) f i e = unfold nodes arity in
+    absurd (let h : d ≡ literal-node t s = cc in omega (arith, ap arity h))
 under d ds (Bind q v a) f i e = unfold nodes in (a, cc)
 
-pub one-ends : (d : Node) (ds : List Node) (m q : ℕ) → arity d ≡ 1 → TreeOf ds (Ends m q) → TreeOf (d ∷ ds) (Ends (1 + m) (words d + q))
+pub one-ends : (d : Node) (ds : List Node) (m q : ℕ) → arity d ≡ 1 → TreeOf ds (Ends m q)
+    → TreeOf (d ∷ ds) (Ends (1 + m) (words d + q))
 unfolding TreeOf
 one-ends d ds m q i (a, f, e, c, w) =
     let (r, n, k, l) = over d i a in
@@ -72,15 +78,20 @@ one-broken d ds i h r f e = let (a, k) = under d ds r f i e in h a f k
 both : (j : Junction) (right : ℤ) (ds : List Node) (r : Rule) (f : List Node) → join-node j right ∷ ds ≡ nodes r ++ f
     → (a : Rule) × (b : Rule) × (right ≡ pos (1 + count a)) × (ds ≡ nodes a ++ (nodes b ++ f))
 both j right ds (Constant b) f e = unfold nodes in let z : _≡_ {A = ℕ} 0 1 = cc in impossible z
-both j right ds (Join k a b) f e = unfold nodes in (a, b, cc, (let h : ds ≡ (nodes a ++ nodes b) ++ f = cc in h ∙ append-assoc (nodes a) (nodes b) f))
+both j right ds (Join k a b) f e = unfold nodes in
+    let h : ds ≡ (nodes a ++ nodes b) ++ f = cc in
+    (a, b, cc, h ∙ append-assoc (nodes a) (nodes b) f)
 both j right ds (Not a) f e = unfold nodes in let z : _≡_ {A = ℕ} 0 1 = cc in impossible z
 both j right ds (Literal t s) f e = unfold nodes in let z : _≡_ {A = ℕ} 0 1 = cc in impossible z
 both j right ds (Bind q v a) f e = unfold nodes in let z : _≡_ {A = ℕ} 0 1 = cc in impossible z
 
 -- the nodes after those of the left child
-pub after-left : (ds : List Node) (m q : ℕ) → TreeOf ds (Ends m q) → (a : Rule) × (ds ≡ nodes a ++ drop m ds) × (m ≡ count a) × (q ≡ weight a)
+pub after-left : (ds : List Node) (m q : ℕ) → TreeOf ds (Ends m q)
+    → (a : Rule) × (ds ≡ nodes a ++ drop m ds) × (m ≡ count a) × (q ≡ weight a)
 unfolding TreeOf
-after-left ds m q (a, f, e, c, w) = (a, e ∙ ap (λ (g : List Node). nodes a ++ g) (sym (ap (drop m) e ∙ drop-at (nodes a) f m (length-nodes a ∙ sym c))), c, w)
+after-left ds m q (a, f, e, c, w) =
+    let behind = ap (drop m) e ∙ drop-at (nodes a) f m (length-nodes a ∙ sym c) in
+    (a, e ∙ ap (λ (g : List Node). nodes a ++ g) (sym behind), c, w)
 
 module _ (j : Junction) (right : ℤ) (ds : List Node) where
   pub left-broken : TreeOf ds Broken → TreeOf (join-node j right ∷ ds) Broken
@@ -109,5 +120,7 @@ module _ (j : Junction) (right : ℤ) (ds : List Node) where
   two-end m q k w h e (b, f, i, c, v) =
       let (a, l, u, x) = after-left ds m q h in
       let child : right ≡ pos (1 + count a) = e ∙ ap (λ (y : ℕ). pos (1 + y)) u in
-      let rest : ds ≡ (nodes a ++ nodes b) ++ f = l ∙ ap (λ (g : List Node). nodes a ++ g) i ∙ sym (append-assoc (nodes a) (nodes b) f) in
-      (Join j a b, f, ap (λ z. join-node j z ∷ ds) child ∙ ap (λ (g : List Node). join-node j (pos (1 + count a)) ∷ g) rest, omega arith, omega arith)
+      let rest : ds ≡ (nodes a ++ nodes b) ++ f =
+      l ∙ ap (λ (g : List Node). nodes a ++ g) i ∙ sym (append-assoc (nodes a) (nodes b) f) in
+      let all = ap (λ z. join-node j z ∷ ds) child ∙ ap (λ (g : List Node). join-node j (pos (1 + count a)) ∷ g) rest in
+      (Join j a b, f, all, omega arith, omega arith)

@@ -1,13 +1,14 @@
 -- The verdict on a table's bytes, for each way out of the check.
 -- Assumes nothing.
-use mathlib.Core.Path.{_≡_, sym, _∙_, subst}
+use mathlib.Core.Path.{_≡_, sym, _∙_, ap, subst}
 use mathlib.Core.Logic.{_⊎_}
 use mathlib.Core.List.{List}
 use Prim.Native.Nat.{ℕ, _+_, _<_, _≤_, _%_}
 use lib.IntN.{pos}
 use lib.ListN.{length, getD}
-use Rattle.rules.specs.Result.{refused, given}
-use Rattle.rules.specs.Table.{Node, most-words}
+use Rattle.rules.specs.Rule.{Rule}
+use Rattle.rules.specs.Result.{Result, refused, given}
+use Rattle.rules.specs.Table.{Node, count, most-words}
 use Rattle.rules.specs.Calls.{signed, words, rule-of}
 use Rattle.tables.specs.Checks.{rest, Judged, Listed, TreeOf, TreeAt, Verdict}
 use Rattle.tables.specs.declared.check.Tree.{Tree}
@@ -16,7 +17,25 @@ use Rattle.tables.specs.declared.check.Checked.{Checked}
 use Rattle.tables.specs.declared.check.Checked.the-variants.{Table, Not}
 use Rattle.tables.proofs.WordLaws.{words-from}
 use Rattle.tables.proofs.WalkLaws.{part}
-use Rattle.tables.proofs.CheckLaws.{Sized, odd-refused, size-refused, count-refused, nodes-refused, were-read, is-a-rule, nodes-left, no-tree}
+use Rattle.tables.proofs.CheckLaws.{
+  Sized,
+  odd-refused,
+  size-refused,
+  count-refused,
+  nodes-refused,
+  were-read,
+  is-a-rule,
+  nodes-left,
+  no-tree,
+}
+
+-- any two verdicts on the same bytes are equal
+pub verdict-unique : (x : Result Rule) (v w : Checked) → Verdict x v → Verdict x w → v ≡ w
+unfolding Verdict
+verdict-unique x (Table n) (Table m) (r, e, c) (s, f, d) = ap Table (let same : r ≡ s = cc in c ∙ ap count same ∙ sym d)
+verdict-unique x (Table n) (Not k) (r, e, c) f = cc
+verdict-unique x (Not k) (Table n) e (r, f, c) = cc
+verdict-unique x (Not k) (Not j) e f = cc
 
 not-by : (l : List ℕ) (k : ℕ) → rule-of l ≡ refused k → Verdict (rule-of l) (Not k)
 unfolding Verdict

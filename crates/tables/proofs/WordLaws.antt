@@ -1,6 +1,6 @@
 -- The words of bytes: how many there are, which they are, what a store makes of them; and a word's bits and its number.
 -- Assumes nothing.
-use mathlib.Core.Path.{_≡_, refl, ap, _∙_}
+use mathlib.Core.Path.{_≡_, refl, sym, ap, _∙_}
 use mathlib.Core.Bool.{Bool, true, false, cond}
 use mathlib.Core.List.{List, [], _∷_}
 use Prim.Native.Nat.{ℕ, zero, suc, _+_, _-_, _*_, _/_, _%_, _<_, _≤_}
@@ -45,6 +45,19 @@ number-is u n h e = ap signed e ∙ signed-low n h
 -- the upper half lies below 0
 pub signed-high : (u : ℕ) → 2147483648 ≤ u → signed u ≡ negsuc (4294967295 - u)
 signed-high u h = rw (le-ltb u 2147483648 h)
+
+bits-signed : (u : ℕ) → u < 4294967296 → bits (signed u) ≡ u
+bits-signed u h = by (ltb u 2147483648) refl
+  where
+    by : (b : Bool) → ltb u 2147483648 ≡ b → bits (signed u) ≡ u
+    by true t = ap bits (signed-low u (ltb-true _ _ t))
+    by false t =
+        let back : 4294967295 - (4294967295 - u) ≡ u = omega arith in
+        ap bits (signed-high u (ltb-false _ _ t)) ∙ back
+
+-- no two numbers of 32 bits are the same word
+pub natural-unique : (u v : ℕ) → u < 4294967296 → v < 4294967296 → signed u ≡ signed v → u ≡ v
+natural-unique u v h k e = sym (bits-signed u h) ∙ ap bits e ∙ bits-signed v k
 
 -- ---- the words of bytes
 
@@ -100,7 +113,8 @@ words-set (a ∷ b ∷ c ∷ []) i v f h = absurd (omega arith)
 words-set (a ∷ b ∷ c ∷ d ∷ l) zero v f h =
     ap (λ (w : ℤ). w ∷ words l) (ap signed (four-bytes (bits v) (bits-low v f)) ∙ signed-bits v f)
 words-set (a ∷ b ∷ c ∷ d ∷ l) (suc i) v f h =
-    rw (next i) (ap (λ (ws : List ℤ). signed (a + 256 * (b + 256 * (c + 256 * d))) ∷ ws) (words-set l i v f (omega arith)))
+    rw (next i)
+    (ap (λ (ws : List ℤ). signed (a + 256 * (b + 256 * (c + 256 * d))) ∷ ws) (words-set l i v f (omega arith)))
 
 -- a store of the bits of v
 pub words-put : (l m : List ℕ) (i u : ℕ) (v : ℤ) → SFits w32 v → i < length (words l) → u ≡ bits v

@@ -1,7 +1,19 @@
 -- `check::check` meets its contract: each way out is a verdict of the definitions.
 -- Assumes nothing.
-use Prim.Native.Nat.{_+_}
-use Rattle.tables.proofs.VerdictLaws.{NodesRead, nodes-read, nodes-listed, verdict-odd, verdict-size, verdict-count, verdict-nodes, verdict-broken, verdict-left, verdict-rule}
+use Prim.Native.Nat.{ℕ, _+_}
+use mathlib.Core.List.{List}
+use Rattle.tables.proofs.VerdictLaws.{
+  NodesRead,
+  nodes-read,
+  nodes-listed,
+  verdict-odd,
+  verdict-size,
+  verdict-count,
+  verdict-nodes,
+  verdict-broken,
+  verdict-left,
+  verdict-rule,
+}
 use Rattle.tables.proofs.CheckLaws.{Sized}
 use Rattle.tables.proofs.WalkLaws.{part-long}
 use Rattle.tables.proofs.WordLaws.{words-length}
@@ -31,9 +43,16 @@ calls = (
   walk-reads.Learnt,
 )
 
+-- the bytes, from where the nodes are due
+abbrev bytes : (c : lts.Else5 calls reads.Pre reads.Post) → List ℕ
+bytes c = c .before .before .before .before .before .before .before .before .args .t .now
+
+-- and how many are due
+abbrev due : (c : lts.Else5 calls reads.Pre reads.Post) → ℕ
+due c = c .before .before .natural .result
+
 -- the tests of the first word are passed
-sized : (c : lts.Else5 calls reads.Pre reads.Post)
-    → Sized (c .before .before .before .before .before .before .before .before .args .t .now) (c .before .before .natural .result)
+sized : (c : lts.Else5 calls reads.Pre reads.Post) → Sized (bytes c) (due c)
 sized c =
     let size = c .before .before .before .before .before .count .ensures in
     record {
@@ -46,11 +65,13 @@ sized c =
 
 -- the nodes are read
 nodes-of : (c : lts.After-enum-told calls reads.Pre reads.Post)
-    → NodesRead (c .before .before .before .before .before .before .before .before .before .before .before .args .t .now) (c .before .before .before .before .before .natural .result)
-nodes-of c = nodes-read _ _ _ (sized (c .before .before .before)) (c .enum-told .given .1) (c .before .before .nodes .ensures)
+    → let d = c .before .before .before in
+    NodesRead (bytes d) (due d)
+nodes-of c =
+    nodes-read _ _ _ (sized (c .before .before .before)) (c .enum-told .given .1) (c .before .before .nodes .ensures)
 
 returns : tie.Need-returns
-returns c = verdict-odd _ (c .if1 .taken)
+returns c = verdict-odd _ (omega (arith, c .if1 .taken))
 
 count-requires : tie.Need-count-requires
 count-requires c κs = search needs
@@ -65,10 +86,17 @@ natural-requires : tie.Need-natural-requires
 natural-requires c κs = omega (arith, c .before .before .count .ensures)
 
 returns-4 : tie.Need-returns-4
-returns-4 c = verdict-count _ (c .before .natural .result) (omega arith) (c .before .natural .ensures .1) (omega (arith, c .before .before .before .before .count .ensures)) (inl (c .if4 .taken))
+returns-4 c =
+    let found = c .before .natural in
+    let size = c .before .before .before .before .count .ensures in
+    verdict-count _ (found .result) (omega arith) (found .ensures .1) (omega (arith, size)) (inl (c .if4 .taken))
 
 returns-5 : tie.Need-returns-5
-returns-5 c = verdict-count _ (c .before .before .natural .result) (omega arith) (c .before .before .natural .ensures .1) (omega (arith, c .before .before .before .before .before .count .ensures)) (inr (omega (arith, c .before .before .before .before .before .count .ensures, c .if5 .taken)))
+returns-5 c =
+    let found = c .before .before .natural in
+    let size = c .before .before .before .before .before .count .ensures in
+    verdict-count _ (found .result) (omega arith) (found .ensures .1) (omega (arith, size))
+    (inr (omega (arith, size, c .if5 .taken)))
 
 nodes-requires : tie.Need-nodes-requires
 nodes-requires c κs = let s = sized c in (omega (arith, s .inside), s .most)
@@ -80,7 +108,8 @@ enum-told-2 : tie.Need-enum-told-2
 enum-told-2 c = search needs
 
 returns-6 : tie.Need-returns-6
-returns-6 c = verdict-nodes _ _ _ (sized (c .before .before .before)) (c .enum-told2 .given .1) (c .before .before .nodes .ensures)
+returns-6 c =
+    verdict-nodes _ _ _ (sized (c .before .before .before)) (c .enum-told2 .given .1) (c .before .before .nodes .ensures)
 
 add-from : tie.Need-add-from
 add-from c = let s = nodes-of c .sized in omega (arith, s .inside, s .most)
@@ -89,20 +118,21 @@ mul-from : tie.Need-mul-from
 mul-from c = let s = nodes-of c .sized in omega (arith, s .inside, s .most)
 
 sub-walk : tie.Need-sub-walk
-sub-walk c = let s = nodes-of c .sized in omega (arith, s .inside, words-length (c .before .before .before .before .before .before .before .before .before .before .before .args .t .now))
+sub-walk c = omega (arith, nodes-of c .sized .inside, words-length (bytes (c .before .before .before)))
 
 part-walk-start : tie.Need-part-walk-start
-part-walk-start c = let s = nodes-of c .sized in omega (arith, s .inside, words-length (c .before .before .before .before .before .before .before .before .before .before .before .args .t .now))
+part-walk-start c = omega (arith, nodes-of c .sized .inside, words-length (bytes (c .before .before .before)))
 
 part-walk-end : tie.Need-part-walk-end
 part-walk-end c = search needs
 
 walk-requires : tie.Need-walk-requires
 walk-requires c κs =
-    let s = nodes-of (c .before) .sized in (
-      nodes-listed (nodes-of (c .before)),
-      omega (arith, s .inside, s .most),
-      omega (arith, s .most, part-long (c .before .before .before .before .before .before .before .before .before .before .before .before .args .t .now) (c .before .before .before .before .before .before .natural .result + 1)),
+    let d = c .before .before .before .before in
+    let read = nodes-of (c .before) in (
+      nodes-listed read,
+      omega (arith, read .sized .inside, read .sized .most),
+      omega (arith, read .sized .most, part-long (bytes d) (due d + 1)),
     )
 
 enum-known-end : tie.Need-enum-known-end
@@ -112,13 +142,21 @@ enum-told-3 : tie.Need-enum-told-3
 enum-told-3 c = search needs
 
 returns-7 : tie.Need-returns-7
-returns-7 c = verdict-broken (nodes-of (c .before .before .before .before)) (c .enum-told3 .given .1) (c .before .before .walk .ensures)
+returns-7 c =
+    let walked = c .before .before in
+    verdict-broken (nodes-of (walked .before .before)) (c .enum-told3 .given .1) (walked .walk .ensures)
 
 returns-8 : tie.Need-returns-8
-returns-8 c = verdict-left (nodes-of (c .before .before .before .before .before .before)) _ _ (c .before .before .end .given .1) (c .before .before .before .before .walk .ensures) (c .if6 .taken)
+returns-8 c =
+    let walked = c .before .before .before .before in
+    let read = nodes-of (walked .before .before) in
+    verdict-left read _ _ (c .before .before .end .given .1) (walked .walk .ensures) (omega (arith, c .if6 .taken))
 
 returns-9 : tie.Need-returns-9
-returns-9 c = verdict-rule (nodes-of (c .before .before .before .before .before .before)) _ _ (c .before .before .end .given .1) (c .before .before .before .before .walk .ensures) (c .if6 .left)
+returns-9 c =
+    let walked = c .before .before .before .before in
+    let read = nodes-of (walked .before .before) in
+    verdict-rule read _ _ (c .before .before .end .given .1) (walked .walk .ensures) (omega (arith, c .if6 .left))
 
 pub check-spec : {M : Type 1} → statement M
 check-spec =

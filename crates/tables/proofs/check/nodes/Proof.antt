@@ -8,7 +8,16 @@ use borrow.Author.Needs.{needs}
 use Rattle.rules.specs.Calls.{words}
 use Rattle.tables.specs.Checks.{Judged, rest, refusal}
 use Rattle.tables.proofs.WordLaws.{words-length, words-from}
-use Rattle.tables.proofs.CheckLaws.{Carries, carries-itself, still-inside, entry-refused, body-refused, node-passed, all-passed, end-refused}
+use Rattle.tables.proofs.CheckLaws.{
+  Carries,
+  carries-itself,
+  still-inside,
+  entry-refused,
+  body-refused,
+  node-passed,
+  all-passed,
+  end-refused,
+}
 use Rattle.tables.proofs.KindLaws.{node-whole, node-refused}
 use Rattle.tables.proofs.check.nodes.Statement.{statement}
 use Rattle.tables.proofs.check.nodes.Tie as tie
@@ -30,19 +39,30 @@ add-place : tie.Need-add-place Inv-loop μ-loop
 add-place c = omega (arith, words-length (c .before .args .t .now))
 
 loop-holds : tie.Need-loop-holds Inv-loop μ-loop
-loop-holds c = (omega arith, c .before .pre .0, carries-itself (rest (words (c .before .args .t .now)) (c .before .args .n) 0 (c .before .args .n + 1)))
+loop-holds c =
+    let a = c .before .args in
+    (omega arith, c .before .pre .0, carries-itself (rest (words (a .t .now)) (a .n) 0 (a .n + 1)))
 
 add-natural : tie.Need-add-natural Inv-loop μ-loop
-add-natural c = omega (arith, c .before .before .before .pre .0, c .before .before .before .pre .1, c .before .loop .inv .0)
+add-natural c =
+    let pre = c .before .before .before .pre in
+    omega (arith, pre .0, pre .1, c .before .loop .inv .0)
 
 natural-requires : tie.Need-natural-requires Inv-loop μ-loop
 natural-requires c κs = omega (arith, c .before .before .before .pre .0, c .before .loop .inv .0)
 
 returns : tie.Need-returns Inv-loop μ-loop
-returns c = entry-refused _ _ _ _ _ (c .before .before .before .loop .inv .2) (c .before .natural .result) (omega arith) (omega (arith, c .before .before .before .before .before .pre .0)) (c .before .natural .ensures .1) (omega arith)
+returns c =
+    let found = c .before .natural in
+    let turn = c .before .before .before in
+    let pre = turn .before .before .pre in
+    entry-refused _ _ _ _ _ (turn .loop .inv .2) (found .result) (omega arith) (omega (arith, pre .0))
+    (found .ensures .1) (omega arith)
 
 mul-from : tie.Need-mul-from Inv-loop μ-loop
-mul-from c = omega (arith, words-length (c .before .before .before .before .before .args .t .now), c .before .before .before .before .before .pre .1)
+mul-from c =
+    let start = c .before .before .before .before .before in
+    omega (arith, words-length (start .args .t .now), start .pre .1)
 
 sub-read-node : tie.Need-sub-read-node Inv-loop μ-loop
 sub-read-node c = omega (arith, words-length (c .before .before .before .before .before .args .t .now))
@@ -66,11 +86,18 @@ refusal-requires : tie.Need-refusal-requires Inv-loop μ-loop
 refusal-requires c κs = search needs
 
 returns-2 : tie.Need-returns-2 Inv-loop μ-loop
-returns-2 c = subst (Judged _) (sym (c .refusal .ensures ∙ ap refusal (c .before .enum-told .given .1)))
-    (body-refused _ _ _ _ _ (c .before .before .before .before .before .before .before .before .loop .inv .2) (c .before .before .before .before .before .before .natural .result) _ _ (c .before .before .before .before .before .before .before .loop-test .taken)
-    (omega (arith, c .before .before .before .before .before .before .before .before .before .before .pre .0)) (c .before .before .before .before .before .before .natural .ensures .1) (c .before .before .before .before .before .if1 .left)
-    (omega (arith, c .before .before .before .before .before .before .before .before .before .before .pre .1, c .before .before .before .before .before .before .before .before .loop .inv .1)) (words-from (c .before .before .before .before .before .before .before .before .before .before .args .t .now) (c .before .before .before .before .before .before .before .before .loop .place))
-    (node-refused _ _ (c .before .enum-told .given .1) (c .before .before .before .read-node .ensures) _))
+returns-2 c =
+    let told = c .before .enum-told .given .1 in
+    let read = c .before .before .before in
+    let entry = read .before .before in
+    let found = entry .before .natural in
+    let turn = entry .before .before .before in
+    let start = turn .before .before in
+    subst (Judged _) (sym (c .refusal .ensures ∙ ap refusal told))
+    (body-refused _ _ _ _ _ (turn .loop .inv .2) (found .result) _ _ (entry .before .before .loop-test .taken)
+    (omega (arith, start .pre .0)) (found .ensures .1) (entry .if1 .left)
+    (omega (arith, start .pre .1, turn .loop .inv .1)) (words-from (start .args .t .now) (turn .loop .place))
+    (node-refused _ _ told (read .read-node .ensures) _))
 
 add-i : tie.Need-add-i Inv-loop μ-loop
 add-i c = omega arith
@@ -80,24 +107,33 @@ loop-less c = omega arith
 
 loop-again : tie.Need-loop-again Inv-loop μ-loop
 loop-again c =
-    let d = node-whole _ _ (c .before .reading .given .1) (c .before .before .before .read-node .ensures) (c .before .before .before .before .before .before .before .before .loop .i) in
-    let at = words-from (c .before .before .before .before .before .before .before .before .before .before .args .t .now) (c .before .before .before .before .before .before .before .before .loop .place) in
-    let next-inside = still-inside (words (c .before .before .before .before .before .before .before .before .before .before .args .t .now)) (c .before .before .before .before .before .before .before .before .loop .place) (c .before .before .before .before .before .before .before .before .loop .inv .1) at d in (
+    let read = c .before .before .before in
+    let entry = read .before .before in
+    let found = entry .before .natural in
+    let turn = entry .before .before .before in
+    let start = turn .before .before in
+    let it = node-whole _ _ (c .before .reading .given .1) (read .read-node .ensures) (turn .loop .i) in
+    let at = words-from (start .args .t .now) (turn .loop .place) in (
       omega arith,
-      next-inside,
-      node-passed _ _ _ _ _ (c .before .before .before .before .before .before .before .before .loop .inv .2) (c .before .before .before .before .before .before .natural .result) _ _ _ (c .before .before .before .before .before .before .before .loop-test .taken)
-          (omega (arith, c .before .before .before .before .before .before .before .before .before .before .pre .0)) (c .before .before .before .before .before .before .natural .ensures .1) (c .before .before .before .before .before .if1 .left) (omega (arith, c .before .before .before .before .before .before .before .before .before .before .pre .1, c .before .before .before .before .before .before .before .before .loop .inv .1)) at d,
+      still-inside (words (start .args .t .now)) (turn .loop .place) (turn .loop .inv .1) at it,
+      node-passed _ _ _ _ _ (turn .loop .inv .2) (found .result) _ _ _ (entry .before .before .loop-test .taken)
+          (omega (arith, start .pre .0)) (found .ensures .1) (entry .if1 .left)
+          (omega (arith, start .pre .1, turn .loop .inv .1)) at it,
     )
 
 count-requires : tie.Need-count-requires Inv-loop μ-loop
 count-requires c κs = search needs
 
 returns-3 : tie.Need-returns-3 Inv-loop μ-loop
-returns-3 c = end-refused _ _ _ _ _ (c .before .before .before .loop .inv .2) (omega arith) (c .before .before .before .loop .inv .1)
-    (λ e. c .if2 .taken (e ∙ sym (c .before .count .ensures)))
+returns-3 c =
+    let loop = c .before .before .before .loop in
+    let short = c .if2 .taken in
+    end-refused _ _ _ _ _ (loop .inv .2) (omega arith) (loop .inv .1) (omega (arith, short, c .before .count .ensures))
 
 returns-4 : tie.Need-returns-4 Inv-loop μ-loop
-returns-4 c = all-passed _ _ _ _ _ (c .before .before .before .loop .inv .2) (omega arith) (c .if2 .left ∙ c .before .count .ensures)
+returns-4 c =
+    let loop = c .before .before .before .loop in
+    all-passed _ _ _ _ _ (loop .inv .2) (omega arith) (omega (arith, c .if2 .left, c .before .count .ensures))
 
 pub nodes-spec : {M : Type 1} → statement M
 nodes-spec =
