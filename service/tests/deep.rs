@@ -1,0 +1,200 @@
+//! The deepest tables, on the stack that Rust gives a thread by default, and many threads at once.
+
+mod independent;
+mod tables;
+
+use service::{Answer, matches};
+use std::thread::{Builder, scope};
+
+const STACK: usize = 2 << 20;
+const LITERAL: [i32; 8] = [5, 0, 1, 0, 0, 0, 0, 0];
+
+struct Case {
+    name: &'static str,
+    table: Vec<u8>,
+    values: [i32; 6],
+    number: u8,
+    verdict: u8,
+}
+
+fn case(
+    name: &'static str,
+    bodies: &[Vec<i32>],
+    s1: i32,
+    words: usize,
+    (number, verdict): (u8, u8),
+) -> Case {
+    let table = tables::bytes(&tables::words(bodies));
+    assert_eq!(table.len(), 4 * words, "{name}");
+    Case {
+        name,
+        table,
+        values: [s1, 0, 0, 0, 0, 0],
+        number,
+        verdict,
+    }
+}
+
+fn nots(count: usize, leaf: &[i32]) -> Vec<Vec<i32>> {
+    let mut bodies = vec![vec![4]; count];
+    bodies.push(leaf.to_vec());
+    bodies
+}
+
+/// Junctions down the left side; the leaves are true but for the deepest.
+fn left_comb(kind: i32, count: i32, deepest: i32) -> Vec<Vec<i32>> {
+    let mut bodies: Vec<_> = (0..count).map(|i| vec![kind, 2 * count - i]).collect();
+    bodies.push(vec![deepest]);
+    bodies.resize(2 * count as usize + 1, vec![1]);
+    bodies
+}
+
+/// Junctions down the right side, likewise.
+fn right_comb(kind: i32, count: i32, deepest: i32) -> Vec<Vec<i32>> {
+    let mut bodies: Vec<_> = (0..count)
+        .flat_map(|i| [vec![kind, 2 * i + 2], vec![1]])
+        .collect();
+    bodies.push(vec![deepest]);
+    bodies
+}
+
+fn cases() -> Vec<Case> {
+    let mut crossed = left_comb(2, 3276, 1);
+    crossed[0][1] += 1;
+    let mut hidden = nots(8189, &[8, 6]);
+    hidden.push(vec![1]);
+    vec![
+        case("nots over true", &nots(8190, &[1]), 0, 16_383, (0, 1)),
+        case("nots over false", &nots(8189, &[0]), 0, 16_381, (0, 1)),
+        case(
+            "nots over a literal that holds",
+            &nots(8187, &LITERAL),
+            1,
+            16_384,
+            (0, 2),
+        ),
+        case(
+            "nots over a literal that does not",
+            &nots(8187, &LITERAL),
+            0,
+            16_384,
+            (0, 1),
+        ),
+        case("one not too many", &nots(8188, &LITERAL), 0, 16_386, (1, 0)),
+        case("nots over nothing", &nots(8190, &[4]), 0, 16_383, (4, 0)),
+        case(
+            "nots over a quantifier",
+            &hidden,
+            500_000_001,
+            16_384,
+            (10, 0),
+        ),
+        case(
+            "a value outside",
+            &nots(8190, &[1]),
+            500_000_001,
+            16_383,
+            (9, 0),
+        ),
+        case(
+            "ands down the left, true",
+            &left_comb(2, 3276, 1),
+            0,
+            16_383,
+            (0, 1),
+        ),
+        case(
+            "ands down the left, false",
+            &left_comb(2, 3276, 0),
+            0,
+            16_383,
+            (0, 2),
+        ),
+        case(
+            "ors down the left",
+            &left_comb(3, 3276, 0),
+            0,
+            16_383,
+            (0, 1),
+        ),
+        case(
+            "the outermost right child wrong",
+            &crossed,
+            0,
+            16_383,
+            (4, 0),
+        ),
+        case(
+            "ands down the right, true",
+            &right_comb(2, 3276, 1),
+            0,
+            16_383,
+            (0, 1),
+        ),
+        case(
+            "ands down the right, false",
+            &right_comb(2, 3276, 0),
+            0,
+            16_383,
+            (0, 2),
+        ),
+    ]
+}
+
+fn check(cases: &[Case], matches: fn(&[u8], [i32; 6]) -> Answer) {
+    for Case {
+        name,
+        table,
+        values,
+        number,
+        verdict,
+    } in cases
+    {
+        let expected = Answer {
+            number: *number,
+            verdict: *verdict,
+            words: 0,
+            settings: 0,
+            place: 0,
+        };
+        assert_eq!(matches(table, *values), expected, "{name}");
+    }
+}
+
+#[test]
+fn the_deepest_tables_need_no_more_than_two_mebibytes() {
+    let cases = cases();
+    scope(|s| {
+        Builder::new()
+            .stack_size(STACK)
+            .spawn_scoped(s, || check(&cases, matches))
+            .unwrap();
+    });
+}
+
+#[test]
+fn eight_threads_at_once_are_answered_alike() {
+    let cases = cases();
+    scope(|s| {
+        for _ in 0..8 {
+            let many = || (0..20).for_each(|_| check(&cases, matches));
+            Builder::new()
+                .stack_size(STACK)
+                .spawn_scoped(s, many)
+                .unwrap();
+        }
+    });
+}
+
+#[test]
+fn the_independent_implementation_agrees() {
+    let cases = cases();
+    scope(|s| {
+        // It walks trees without a thought for the stack.
+        let check = || check(&cases, independent::matches);
+        Builder::new()
+            .stack_size(256 << 20)
+            .spawn_scoped(s, check)
+            .unwrap();
+    });
+}

@@ -1,0 +1,112 @@
+//! The worked lines, through the library and through the independent implementation.
+
+mod independent;
+mod lines;
+
+use lines::{Buffer, Call, Line, line, lines};
+use service::Answer;
+
+const MATCH: &str = include_str!("vectors/match.txt");
+
+/// Runs every line; both calls take the table and the values.
+fn run(matches: fn(&[u8], [i32; 6]) -> Answer) {
+    let lines = lines(MATCH);
+    assert_eq!(lines.len(), 58);
+    for (at, line) in lines {
+        let Call::Match(values) = line.call else {
+            panic!("line {at}: the library has no such call yet");
+        };
+        assert_eq!((line.out_length, line.work_length), (0, 0), "line {at}");
+        assert_eq!(matches(&line.table, values), line.answer, "line {at}");
+    }
+}
+
+#[test]
+fn the_library_answers_every_line() {
+    run(service::matches);
+}
+
+#[test]
+fn the_independent_implementation_answers_every_line() {
+    run(independent::matches);
+}
+
+#[test]
+fn the_three_calls_are_read() {
+    let none = || Buffer::Bytes(Vec::new());
+    let answer = |number, verdict, words, settings| Answer {
+        number,
+        verdict,
+        words,
+        settings,
+        place: 0,
+    };
+    let read = [
+        (
+            "elim 0100000002000000ff 3 70000 => 0 3 11 2 | 00a0ff fnv:00000000000000ff:70000",
+            Line {
+                call: Call::Eliminate,
+                table: vec![1, 0, 0, 0, 2, 0, 0, 0, 255],
+                out_length: 3,
+                work_length: 70_000,
+                answer: answer(0, 3, 11, 2),
+                out: Buffer::Bytes(vec![0, 0xa0, 0xff]),
+                work: Buffer::Hash {
+                    fnv: 255,
+                    length: 70_000,
+                },
+            },
+        ),
+        (
+            "leave - 1 0 -2147483648 => 1 0 0 0 | 00 -",
+            Line {
+                call: Call::Test(i32::MIN),
+                table: Vec::new(),
+                out_length: 1,
+                work_length: 0,
+                answer: answer(1, 0, 0, 0),
+                out: Buffer::Bytes(vec![0]),
+                work: none(),
+            },
+        ),
+        (
+            "match 01 0 0 1 -2 3 -4 5 2147483647 => 9 0 0 0 | - -",
+            Line {
+                call: Call::Match([1, -2, 3, -4, 5, i32::MAX]),
+                table: vec![1],
+                out_length: 0,
+                work_length: 0,
+                answer: answer(9, 0, 0, 0),
+                out: none(),
+                work: none(),
+            },
+        ),
+    ];
+    for (text, expected) in read {
+        assert_eq!(line(text), Some(expected), "{text}");
+    }
+}
+
+#[test]
+fn a_slip_in_a_line_is_no_line() {
+    let slips = [
+        "match 01 0 0 1 2 3 4 5 => 9 0 0 0 | - -",
+        "match 01 0 0 1 2 3 4 5 6 7 => 9 0 0 0 | - -",
+        "match 01 0 0 1 2 3 4 5 2147483648 => 9 0 0 0 | - -",
+        "match 0 0 0 1 2 3 4 5 6 => 9 0 0 0 | - -",
+        "match +1 0 0 1 2 3 4 5 6 => 9 0 0 0 | - -",
+        "match 01 0 0 1 2 3 4 5 6 => 9 0 0 | - -",
+        "match 01 0 0 1 2 3 4 5 6 => 9 0 0 0 0 | - -",
+        "match 01 0 0 1 2 3 4 5 6 => 9 0 0 0 | -",
+        "match 01 0 0 1 2 3 4 5 6 => 9 0 0 0",
+        "match 01 0 0 1 2 3 4 5 6",
+        "leave - 1 0 => 1 0 0 0 | 00 -",
+        "elim - 1 0 2 => 1 0 0 0 | 00 -",
+        "elim - 1 => 1 0 0 0 | 00 -",
+        "elim - 1 0 => 1 0 0 0 | fnv:0 -",
+        "take - 1 0 => 1 0 0 0 | 00 -",
+    ];
+    for text in slips {
+        assert_eq!(line(text), None, "{text}");
+    }
+}
