@@ -2,6 +2,7 @@ pub mod WordLaws
 pub mod SignedBits
 pub mod SettingLaws
 pub mod Standings
+pub mod Inversion
 pub mod Fields
 pub mod KindLaws
 pub mod TreeLaws
