@@ -22,7 +22,16 @@ use Rattle.rules.proofs.Sizes.{words, weight, count-pos}
 use Rattle.tables.specs.Standing.{Stands}
 use Rattle.tables.proofs.WordLaws.{number-of, words-from, words-length}
 use Rattle.tables.proofs.WalkLaws.{part}
-use Rattle.tables.proofs.Standings.{body-word, under-not, left, right, right-child, right-entry, inside-entries, inside-bodies}
+use Rattle.tables.proofs.Standings.{
+  body-word,
+  under-not,
+  left,
+  right,
+  right-child,
+  right-entry,
+  inside-entries,
+  inside-bodies,
+}
 use Rattle.leaveoff.specs.Literal.{kind-of, LiteralAt, SomeLiteral}
 use Rattle.leaveoff.specs.Matching.{Matchable, SomeMatchable}
 
@@ -420,9 +429,11 @@ module _ {le lb : List ℕ} {n p k child at : ℕ} (right : RightSide le lb n p 
   pub right-asks : Asks le lb (child - n) (at - p) child at
   right-asks =
       let J = some-join (right .node .join) in
-      let kinded = right .node .join .kinded in (
+      let kinded = right .node .join .kinded in
+      let behind = child-behind (right .node) in
+      let within = child-inside (right .node) in (
         record { rule = J .right-side; at = right-part J },
-        omega (arith, kinded .few-nodes, part-words le (child - n), child-behind (right .node), child-inside (right .node)),
+        omega (arith, kinded .few-nodes, part-words le (child - n), behind, within),
         omega (arith, kinded .few-words, part-words lb (at - p), at-behind, at-inside),
       )
 
