@@ -57,7 +57,8 @@ module _ {l : List ℕ} {n : ℕ} {r : Rule} (t : TableOf l n r) where
     unfolding match-answer require _>>=_
     refused-10 e = outcome-is (refused 10) (matching-by true _ e refl)
 
-    pub refused-9 : quantified r ≡ false → all-within most-value values ≡ false → matched l s1 s2 s3 s4 s5 s6 ≡ refusal 9
+    pub refused-9 : quantified r ≡ false → all-within most-value values ≡ false
+        → matched l s1 s2 s3 s4 s5 s6 ≡ refusal 9
     unfolding match-answer require _>>=_
     refused-9 e f = outcome-is (refused 9) (matching-by false false e f)
 

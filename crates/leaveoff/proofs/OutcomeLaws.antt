@@ -44,10 +44,12 @@ packed-back a f =
     let s = f .settings-fits in
     let number-back : packed a % 256 ≡ a .number = omega arith in
     let past-number : packed a / 256 ≡ a .verdict + a .settings * 4 + a .words * 16777216 = omega arith in
-    let verdict-back : packed a / 256 % 4 ≡ a .verdict = ap (λ (x : ℕ). x % 4) past-number ∙ low-four (a .verdict) (a .settings) (a .words) v in
+    let verdict-back : packed a / 256 % 4 ≡ a .verdict =
+    ap (λ (x : ℕ). x % 4) past-number ∙ low-four (a .verdict) (a .settings) (a .words) v in
     let words-back : packed a / 4294967296 ≡ a .words = omega arith in
     let past-verdict : packed a / 1024 ≡ a .settings + a .words * 4194304 = omega arith in
-    let settings-back : packed a / 1024 % 64 ≡ a .settings = ap (λ (x : ℕ). x % 64) past-verdict ∙ low-six (a .settings) (a .words) s in
+    let settings-back : packed a / 1024 % 64 ≡ a .settings =
+    ap (λ (x : ℕ). x % 64) past-verdict ∙ low-six (a .settings) (a .words) s in
     ap (λ (x : ℕ). answer x (packed a / 256 % 4) (packed a / 4294967296) (packed a / 1024 % 64)) number-back
     ∙ ap (λ (x : ℕ). answer (a .number) x (packed a / 4294967296) (packed a / 1024 % 64)) verdict-back
     ∙ ap (λ (x : ℕ). answer (a .number) (a .verdict) x (packed a / 1024 % 64)) words-back
@@ -68,7 +70,8 @@ pub table-refused : (l : List ℕ) (s1 s2 s3 s4 s5 s6 : ℤ) (k : ℕ) {v : Chec
     → matched l s1 s2 s3 s4 s5 s6 ≡ refusal k
 unfolding matched Verdict
 table-refused l s1 s2 s3 s4 s5 s6 k e h =
-    ap (λ (x : Result Rule). match-answer (x >>= matching (s1 ∷ s2 ∷ s3 ∷ s4 ∷ s5 ∷ s6 ∷ []))) (subst (Verdict (rule-of l)) e h)
+    let values = s1 ∷ s2 ∷ s3 ∷ s4 ∷ s5 ∷ s6 ∷ [] in
+    ap (λ (x : Result Rule). match-answer (x >>= matching values)) (subst (Verdict (rule-of l)) e h)
 
 verdict-one : (b : Bool) → (let v : ℕ = cond b 1 2 in v ≡ 1) ↔ T b
 verdict-one true = (λ e. tt, λ t. refl)
@@ -93,10 +96,13 @@ module _ (l : List ℕ) (s1 s2 s3 s4 s5 s6 : ℤ) where
   unfolding matched match-answer By
   matched-fits = go (rule-of l >>= matching values) (matching-by l values)
     where
+      fits : (n v : ℕ) → n < 256 → v < 4 → Fits (answer n v 0 0)
+      fits n v h g = record { number-fits = h; verdict-fits = g; words-fits = omega arith; settings-fits = omega arith }
+
       go : (x : Result Bool) → By 10 x → Fits (match-answer x)
-      go (refused n) b = record { number-fits = omega (arith, b .1); verdict-fits = omega arith; words-fits = omega arith; settings-fits = omega arith }
-      go (given true) b = record { number-fits = omega arith; verdict-fits = omega arith; words-fits = omega arith; settings-fits = omega arith }
-      go (given false) b = record { number-fits = omega arith; verdict-fits = omega arith; words-fits = omega arith; settings-fits = omega arith }
+      go (refused n) b = fits n 0 (omega (arith, b .1)) (omega arith)
+      go (given true) b = fits 0 1 (omega arith) (omega arith)
+      go (given false) b = fits 0 2 (omega arith) (omega arith)
 
 -- the values as they are handed on
 pub matched-again : (l : List ℕ) {s1 s2 s3 s4 s5 s6 : ℤ}

@@ -25,7 +25,8 @@ ghost use Rattle.leaveoff.specs.Outcome.{answer-of, SaysWhether};
 
 // Whether the literal whose body starts these words holds at the values.
 fn literal_holds(bodies: &[u8], values: &[i32]) -> bool
-    requires { ⌜ SomeLiteral (words-of (now bodies)) × (length (now values) ≡ 6) × T (all-within most-value (now values)) ⌝ }
+    requires { ⌜ SomeLiteral (words-of (now bodies)) × (length (now values) ≡ 6)
+        × T (all-within most-value (now values)) ⌝ }
     ensures { λ r. ⌜ ((n : ℕ) (t : Test) (s : Sum) → LiteralAt (words-of (now (bodies .entry))) n t s
         → r ≡ passes t (value s (choice (now (values .entry))))) ⌝ }
 {

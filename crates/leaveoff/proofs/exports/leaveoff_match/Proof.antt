@@ -34,7 +34,8 @@ pack-requires c κs = subst Fits (sym (outcome c)) (matched-fits _ _ _ _ _ _ _)
 returns : tie.Need-returns
 returns c =
     let packed-is = c .pack .ensures ∙ ap packed (outcome (c .before)) in
-    (packed-is, subst (SaysWhether _ _) (sym (ap unpacked packed-is ∙ packed-back _ (matched-fits _ _ _ _ _ _ _))) (says-whether _ _ _ _ _ _ _))
+    let back = ap unpacked packed-is ∙ packed-back _ (matched-fits _ _ _ _ _ _ _) in
+    (packed-is, subst (SaysWhether _ _) (sym back) (says-whether _ _ _ _ _ _ _))
 
 pub leaveoff-match-spec : {M : Type 1} → statement M
 leaveoff-match-spec = tie.close (tie.spec matches-requires pack-requires returns)

@@ -22,32 +22,38 @@ plus-requires c κs =
 plus-requires-2 : tie.Need-plus-requires-2
 plus-requires-2 c κs =
     let start = c .before .before in
-    (start .pre .0, lit< tt, omega (arith, small start), again-result (c .plus .result) (c .plus .ok) (c .plus .ensures .1))
+    let behind = again-result (c .plus .result) (c .plus .ok) (c .plus .ensures .1) in
+    (start .pre .0, lit< tt, omega (arith, small start), behind)
 
 plus-requires-3 : tie.Need-plus-requires-3
 plus-requires-3 c κs =
     let start = c .before .before .before in
-    (start .pre .0, lit< tt, omega (arith, small start), again-result (c .plus2 .result) (c .plus2 .ok) (c .plus2 .ensures .1))
+    let behind = again-result (c .plus2 .result) (c .plus2 .ok) (c .plus2 .ensures .1) in
+    (start .pre .0, lit< tt, omega (arith, small start), behind)
 
 plus-requires-4 : tie.Need-plus-requires-4
 plus-requires-4 c κs =
     let start = c .before .before .before .before in
-    (start .pre .0, lit< tt, omega (arith, small start), again-result (c .plus3 .result) (c .plus3 .ok) (c .plus3 .ensures .1))
+    let behind = again-result (c .plus3 .result) (c .plus3 .ok) (c .plus3 .ensures .1) in
+    (start .pre .0, lit< tt, omega (arith, small start), behind)
 
 plus-requires-5 : tie.Need-plus-requires-5
 plus-requires-5 c κs =
     let start = c .before .before .before .before .before in
-    (start .pre .0, lit< tt, omega (arith, small start), again-result (c .plus4 .result) (c .plus4 .ok) (c .plus4 .ensures .1))
+    let behind = again-result (c .plus4 .result) (c .plus4 .ok) (c .plus4 .ensures .1) in
+    (start .pre .0, lit< tt, omega (arith, small start), behind)
 
 plus-requires-6 : tie.Need-plus-requires-6
 plus-requires-6 c κs =
     let start = c .before .before .before .before .before .before in
-    (start .pre .0, lit< tt, omega (arith, small start), again-result (c .plus5 .result) (c .plus5 .ok) (c .plus5 .ensures .1))
+    let behind = again-result (c .plus5 .result) (c .plus5 .ok) (c .plus5 .ensures .1) in
+    (start .pre .0, lit< tt, omega (arith, small start), behind)
 
 plus-requires-7 : tie.Need-plus-requires-7
 plus-requires-7 c κs =
     let start = c .before .before .before .before .before .before .before in
-    (start .pre .0, lit< tt, lit≤ tt, again-result (c .plus6 .result) (c .plus6 .ok) (c .plus6 .ensures .1))
+    let behind = again-result (c .plus6 .result) (c .plus6 .ok) (c .plus6 .ensures .1) in
+    (start .pre .0, lit< tt, lit≤ tt, behind)
 
 returns : tie.Need-returns
 returns c =

@@ -1,3 +1,5 @@
+-- `matching::all_within` meets its contract: each value is looked at before those behind it count.
+-- Assumes nothing.
 use Rattle.leaveoff.proofs.Values.{and-behind}
 use Rattle.rules.specs.Sum.{all-within}
 use mathlib.Core.List.{[]}
@@ -29,10 +31,18 @@ within-requires-6 c κs = search needs
 
 returns : tie.Need-returns
 returns c =
-    let f = c .before .before .before .before .before .before .fits in
-    and-behind _ _ (f .s1) (c .within6 .ensures) (and-behind _ _ (f .s2) (c .before .within5 .ensures)
-    (and-behind _ _ (f .s3) (c .before .before .within4 .ensures) (and-behind _ _ (f .s4) (c .before .before .before .within3 .ensures)
-    (and-behind _ _ (f .s5) (c .before .before .before .before .within2 .ensures) (and-behind _ [] (f .s6) (c .before .before .before .before .before .within .ensures) (unfold all-within in refl))))))
+    let c2 = c .before in
+    let c3 = c2 .before in
+    let c4 = c3 .before in
+    let c5 = c4 .before in
+    let c6 = c5 .before in
+    let f = c6 .before .fits in
+    and-behind _ _ (f .s1) (c .within6 .ensures)
+    (and-behind _ _ (f .s2) (c2 .within5 .ensures)
+    (and-behind _ _ (f .s3) (c3 .within4 .ensures)
+    (and-behind _ _ (f .s4) (c4 .within3 .ensures)
+    (and-behind _ _ (f .s5) (c5 .within2 .ensures)
+    (and-behind _ [] (f .s6) (c6 .within .ensures) (unfold all-within in refl))))))
 
 pub all-within-spec : {M : Type 1} → statement M
 all-within-spec =

@@ -1,3 +1,5 @@
+-- `matching::literal_holds` meets its contract: the six values that it hands on are those of the list.
+-- Assumes nothing.
 use Rattle.leaveoff.proofs.Values.{values-read}
 use Rattle.rules.specs.Match.{most-value, choice}
 use Rattle.rules.specs.Rule.{passes}
@@ -32,13 +34,17 @@ shared-slice-copy-out-holds-6 : tie.Need-shared-slice-copy-out-holds-6
 shared-slice-copy-out-holds-6 c = search needs
 
 holds-requires : tie.Need-holds-requires
-holds-requires c κs = let listed = values-read (c .before .before .before .before .before .before .before .args .values .now) (c .before .before .before .before .before .before .before .pre .1) (c .before .before .before .before .before .before .before .pre .2) in
-    (c .before .before .before .before .before .before .before .pre .0, subst (λ (vs : List ℤ). T (all-within most-value vs)) (sym listed) (c .before .before .before .before .before .before .before .pre .2))
+holds-requires c κs =
+    let start = c .before .before .before .before .before .before .before in
+    let (there, six, in-range) = start .pre in
+    let listed = values-read (start .args .values .now) six in-range in
+    (there, subst (λ (vs : List ℤ). T (all-within most-value vs)) (sym listed) in-range)
 
 returns : tie.Need-returns
 returns c = λ n t s l.
-    c .holds .ensures n t s l
-    ∙ ap (λ (vs : List ℤ). passes t (value s (choice vs))) (values-read (c .before .before .before .before .before .before .before .before .args .values .now) (c .before .before .before .before .before .before .before .before .pre .1) (c .before .before .before .before .before .before .before .before .pre .2))
+    let start = c .before .before .before .before .before .before .before .before in
+    let listed = values-read (start .args .values .now) (start .pre .1) (start .pre .2) in
+    c .holds .ensures n t s l ∙ ap (λ (vs : List ℤ). passes t (value s (choice vs))) listed
 
 pub literal-holds-spec : {M : Type 1} → statement M
 literal-holds-spec =

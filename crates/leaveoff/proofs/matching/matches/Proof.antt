@@ -1,3 +1,5 @@
+-- `matching::matches` meets its contract: the check's refusal, or what matching the table that passed it answers.
+-- Assumes nothing.
 use Rattle.leaveoff.proofs.OutcomeLaws.{table-refused, says-whether, matched-again}
 use Rattle.leaveoff.specs.Outcome.{SaysWhether}
 use Rattle.tables.specs.Checks.{Verdict}
@@ -28,13 +30,19 @@ match-rule-requires c κs = subst (Verdict _) (c .before .n .given .1) (c .befor
 
 returns : tie.Need-returns
 returns c =
-    let outcome = c .refused .ensures ∙ sym (table-refused _ _ _ _ _ _ _ _ (c .before .before .k .given .1) (c .before .before .before .before .check .ensures)) in
+    let refusing = c .before .before in
+    let checked = refusing .before .before .check in
+    let outcome =
+    c .refused .ensures ∙ sym (table-refused _ _ _ _ _ _ _ _ (refusing .k .given .1) (checked .ensures)) in
     (outcome, subst (SaysWhether _ _) (sym outcome) (says-whether _ _ _ _ _ _ _))
 
 returns-2 : tie.Need-returns-2
 returns-2 c =
-    let f = c .before .before .before .before .before .before .fits in
-    let outcome = c .match-rule .ensures ∙ matched-again (c .before .before .before .before .before .before .args .t .now) (f .s1) (f .s2) (f .s3) (f .s4) (f .s5) (f .s6) in
+    let start = c .before .before .before .before .before .before in
+    let f = start .fits in
+    let outcome =
+    c .match-rule .ensures
+    ∙ matched-again (start .args .t .now) (f .s1) (f .s2) (f .s3) (f .s4) (f .s5) (f .s6) in
     (outcome, subst (SaysWhether _ _) (sym outcome) (says-whether _ _ _ _ _ _ _))
 
 pub matches-spec : {M : Type 1} → statement M

@@ -1,3 +1,5 @@
+-- `matching::within` meets its contract: two tests are the range, and past them those behind decide.
+-- Assumes nothing.
 use Rattle.leaveoff.proofs.Values.{under-range, over-range, in-range}
 use Rattle.leaveoff.proofs.matching.within.Statement.{statement}
 use Rattle.leaveoff.proofs.matching.within.Tie as tie
