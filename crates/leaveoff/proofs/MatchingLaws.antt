@@ -2,7 +2,7 @@
 -- Assumes nothing.
 use mathlib.Core.Path.{_≡_, refl, sym, _∙_, ap, subst}
 use mathlib.Core.Bool.{Bool, true, false, not, _&&_, _||_, Bool·beq}
-use mathlib.Core.List.{List, [], _++_, append-assoc}
+use mathlib.Core.List.{List}
 use Prim.Native.Nat.{ℕ, _+_, _-_, _*_, _<_, _≤_}
 use native.Mathlib.Omega.{arith}
 use borrow.Rule.Slice.PartAt.{part-to-end}
@@ -10,9 +10,9 @@ use lib.Dec.{eqb}
 use lib.IntN.{ℤ, pos}
 use lib.ListN.{length, getD, take, drop, length-drop}
 use Rattle.rules.specs.Sum.{Sum, value}
-use Rattle.rules.specs.Rule.{Junction, and, or, for-some, for-all, Test, positive, divisible, is-zero}
+use Rattle.rules.specs.Rule.{Junction, and, or, Test, positive, divisible, is-zero}
 use Rattle.rules.specs.Rule.{Rule, Constant, Join, Not, Literal, Bind, passes}
-use Rattle.rules.specs.Table.{constant-node, join-node, not-node, literal-node, bind-node, body, bodies, count, nodes}
+use Rattle.rules.specs.Table.{literal-node, bodies, count}
 use Rattle.rules.specs.Chosen.{quantifiers}
 use Rattle.rules.specs.Laws.{Each}
 use Rattle.rules.specs.Match.{joined, holds, choice}
@@ -22,53 +22,22 @@ use Rattle.rules.proofs.Sizes.{words, weight, count-pos}
 use Rattle.tables.specs.Standing.{Stands}
 use Rattle.tables.proofs.WordLaws.{number-of, words-from, words-length}
 use Rattle.tables.proofs.WalkLaws.{part}
-use Rattle.tables.proofs.Standings.{
-  body-word,
-  under-not,
-  left,
-  right,
-  right-child,
-  right-entry,
-  inside-entries,
-  inside-bodies,
+use Rattle.tables.proofs.Standings.{right, inside-entries, inside-bodies}
+use Rattle.tables.proofs.Inversion.{join-kind, test-kind, Shape as Stood, shape as stood}
+use Rattle.tables.proofs.Inversion.{
+  constant as stood-constant,
+  join as stood-join,
+  negation as stood-negation,
+  literal as stood-literal,
+  bind as stood-bind,
 }
-use Rattle.leaveoff.specs.Literal.{kind-of, LiteralAt, SomeLiteral}
+use Rattle.leaveoff.specs.Literal.{LiteralAt, SomeLiteral}
 use Rattle.leaveoff.specs.Matching.{Matchable, SomeMatchable}
 
--- ---- the kind
-
--- what settles a join, and the kind of one
+-- what settles a join
 abbrev pub settling : Junction → Bool
 settling and = false
 settling or = true
-
-abbrev joint-kind : Junction → ℕ
-joint-kind and = 2
-joint-kind or = 3
-
-abbrev rule-kind : Rule → ℕ
-rule-kind (Constant false) = 0
-rule-kind (Constant true) = 1
-rule-kind (Join j a b) = joint-kind j
-rule-kind (Not a) = 4
-rule-kind (Literal t s) = kind-of t
-rule-kind (Bind for-some v a) = 8
-rule-kind (Bind for-all v a) = 9
-
-module _ {es bs : List ℤ} {n p : ℕ} where
-  kind-word : (a : Rule) → Stands es bs n p a → getD bs 0 (pos 0) ≡ pos (rule-kind a)
-  unfolding nodes words body
-  kind-word (Constant false) s = body-word (constant-node false) [] 0 s (omega arith)
-  kind-word (Constant true) s = body-word (constant-node true) [] 0 s (omega arith)
-  kind-word (Join and a b) s = body-word (join-node and (pos (1 + count a))) (nodes a ++ nodes b) 0 s (omega arith)
-  kind-word (Join or a b) s = body-word (join-node or (pos (1 + count a))) (nodes a ++ nodes b) 0 s (omega arith)
-  kind-word (Not a) s = body-word not-node (nodes a) 0 s (omega arith)
-  kind-word (Literal positive t) s = body-word (literal-node positive t) [] 0 s (omega arith)
-  kind-word (Literal (divisible true k) t) s = body-word (literal-node (divisible true k) t) [] 0 s (omega arith)
-  kind-word (Literal (divisible false k) t) s = body-word (literal-node (divisible false k) t) [] 0 s (omega arith)
-  kind-word (Literal is-zero t) s = body-word (literal-node is-zero t) [] 0 s (omega arith)
-  kind-word (Bind for-some v a) s = body-word (bind-node for-some v) (nodes a) 0 s (omega arith)
-  kind-word (Bind for-all v a) s = body-word (bind-node for-all v) (nodes a) 0 s (omega arith)
 
 -- ---- the shape by the kind
 
@@ -83,46 +52,35 @@ pub data Shape (es bs : List ℤ) (n p k : ℕ) : Rule → Type 0 where
   constant : (b : Bool) → k < 2 → eqb k 1 ≡ b → Shape es bs n p k (Constant b)
   negation : (a : Rule) → k ≡ 4 → Matchable (drop 1 es) (drop 1 bs) (n + 1) (p + 1) a → Shape es bs n p k (Not a)
   literal : (t : Test) (s : Sum) → 4 < k → LiteralAt bs n t s → Shape es bs n p k (Literal t s)
-  join : (j : Junction) (a b : Rule) → k ≡ joint-kind j → SidesAt es bs n p a b → Shape es bs n p k (Join j a b)
+  join : (j : Junction) (a b : Rule) → k ≡ join-kind j → SidesAt es bs n p a b → Shape es bs n p k (Join j a b)
 
-literal-kinds : (t : Test) → 4 < kind-of t
+literal-kinds : (t : Test) → 4 < test-kind t
 literal-kinds positive = omega arith
 literal-kinds (divisible true k) = omega arith
 literal-kinds (divisible false k) = omega arith
 literal-kinds is-zero = omega arith
 
+-- the shape of the rule that stands there, with what is known of its parts
 module _ {es bs : List ℤ} {n p : ℕ} where
-  literal-at : (t : Test) (s : Sum) → Matchable es bs n p (Literal t s) → LiteralAt bs n t s
-  unfolding nodes bodies Each
-  literal-at t s m = record {
-    after = bodies (n + 1) [] ++ m .stands .bodies-after;
-    begins = m .stands .bodies ∙ append-assoc (body n (literal-node t s)) (bodies (n + 1) []) (m .stands .bodies-after);
-    long = m .formed .0;
-    fair = m .formed .2;
-  }
-
-  sides-at : (j : Junction) (a b : Rule) → Matchable es bs n p (Join j a b) → SidesAt es bs n p a b
-  unfolding Each
-  sides-at j a b m =
-      let (f, g) = join-free j a b (m .free) in
-      record {
-        left-at = record { stands = left j a b (m .stands); formed = m .formed .0; free = f };
-        right-at = record { stands = right j a b (m .stands); formed = m .formed .1; free = g };
-        child = right-child j a b (m .stands);
-        entry = right-entry j a b (m .stands);
-      }
-
   pub shape : (k : ℕ) → getD bs 0 (pos 0) ≡ signed k → (a : Rule) → Matchable es bs n p a → Shape es bs n p k a
   unfolding Each quantifiers
-  shape k e a m = go a m (number-of k (rule-kind a) (sym e ∙ kind-word a (m .stands)))
+  shape k e a m = go a m (stood k e a (m .stands))
     where
-      go : (a : Rule) → Matchable es bs n p a → k ≡ rule-kind a → Shape es bs n p k a
-      go (Constant false) m i = constant false (omega arith) (ap (λ (x : ℕ). eqb x 1) i)
-      go (Constant true) m i = constant true (omega arith) (ap (λ (x : ℕ). eqb x 1) i)
-      go (Join j a b) m i = join j a b i (sides-at j a b m)
-      go (Not a) m i = negation a i (record { stands = under-not a (m .stands); formed = m .formed; free = m .free })
-      go (Literal t s) m i = literal t s (omega (arith, literal-kinds t)) (literal-at t s m)
-      go (Bind q v a) m i = absurd (omega (arith, m .free))
+      go : (a : Rule) → Matchable es bs n p a → Stood es bs n p k a → Shape es bs n p k a
+      go a m (stood-constant b l e) = constant b l e
+      go a m (stood-join j b c i s) =
+          let (f, g) = join-free j b c (m .free) in
+          join j b c i (record {
+            left-at = record { stands = s .left-at; formed = m .formed .0; free = f };
+            right-at = record { stands = s .right-at; formed = m .formed .1; free = g };
+            child = s .child;
+            entry = s .entry;
+          })
+      go a m (stood-negation b i s) = negation b i (record { stands = s; formed = m .formed; free = m .free })
+      go a m (stood-literal t u i s) =
+          literal t u (omega (arith, i, literal-kinds t))
+          (record { after = s .after; begins = s .begins; long = m .formed .0; fair = m .formed .2 })
+      go a m (stood-bind q v b i w s) = absurd (omega (arith, m .free))
 
 -- a kind from 2 to 3 is a join's
 pub record Joined (es bs : List ℤ) (n p k : ℕ) (a : Rule) : Type 0 where
@@ -130,14 +88,14 @@ pub record Joined (es bs : List ℤ) (n p k : ℕ) (a : Rule) : Type 0 where
   pub left-side : Rule
   pub right-side : Rule
   pub is : a ≡ Join joint left-side right-side
-  pub kind : k ≡ joint-kind joint
+  pub kind : k ≡ join-kind joint
   pub sides : SidesAt es bs n p left-side right-side
 
-pub a-join : {es bs : List ℤ} {n p k : ℕ} → 2 ≤ k → k ≤ 3 → (a : Rule) → Shape es bs n p k a → Joined es bs n p k a
-a-join f g a (constant b l e) = absurd (omega arith)
-a-join f g a (negation b e m) = absurd (omega arith)
-a-join f g a (literal t s l m) = absurd (omega arith)
-a-join f g a (join j b c e m) = record { joint = j; left-side = b; right-side = c; is = refl; kind = e; sides = m }
+pub join-of : {es bs : List ℤ} {n p k : ℕ} → 2 ≤ k → k ≤ 3 → (a : Rule) → Shape es bs n p k a → Joined es bs n p k a
+join-of f g a (constant b l e) = absurd (omega arith)
+join-of f g a (negation b e m) = absurd (omega arith)
+join-of f g a (literal t s l m) = absurd (omega arith)
+join-of f g a (join j b c e m) = record { joint = j; left-side = b; right-side = c; is = refl; kind = e; sides = m }
 
 same-verdict : (x y : Bool) → Bool·beq x y ≡ true → x ≡ y
 same-verdict true true e = refl
@@ -152,7 +110,7 @@ other-verdict true false e = refl
 other-verdict false true e = refl
 
 -- only an or is settled by true
-settles : (k : ℕ) (j : Junction) → k ≡ joint-kind j → eqb k 3 ≡ settling j
+settles : (k : ℕ) (j : Junction) → k ≡ join-kind j → eqb k 3 ≡ settling j
 settles k and i = ap (λ (m : ℕ). eqb m 3) i
 settles k or i = ap (λ (m : ℕ). eqb m 3) i
 
@@ -319,7 +277,7 @@ pub record JoinKind (le lb : List ℕ) (n p k : ℕ) : Type 0 where
 
 module _ {le lb : List ℕ} {n p k : ℕ} (node : JoinKind le lb n p k) where
   sides-of : (a : Rule) → Matchable (words-of le) (words-of lb) n p a → Joined (words-of le) (words-of lb) n p k a
-  sides-of a m = a-join (node .low) (node .high) a (shape-of (node .kinded) a m)
+  sides-of a m = join-of (node .low) (node .high) a (shape-of (node .kinded) a m)
 
   -- the rule that stands there
   some-join : Joined (words-of le) (words-of lb) n p k (node .kinded .some .rule)
