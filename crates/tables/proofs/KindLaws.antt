@@ -3,10 +3,11 @@
 use mathlib.Core.Path.{_≡_, refl, sym, ap, _∙_, subst}
 use mathlib.Core.Bool.{Bool, true, false, _&&_}
 use mathlib.Core.List.{List, [], _∷_, _++_}
-use Prim.Native.Nat.{ℕ, zero, suc, _+_, _<_, _≤_}
+use Prim.Native.Nat.{ℕ, zero, suc, _+_, _*_, _/_, _%_, _^_, _<_, _≤_}
+use native.Mathlib.Decide.{ℕ-discrete}
 use native.Mathlib.Omega.{arith}
 use borrow.Author.Tests.{ltb-true, ltb-false, leb-true, leb-false}
-use lib.Dec.{T, ltb, leb, leb→le}
+use lib.Dec.{T, ltb, leb, leb→le, eqb, eqb→eq}
 use lib.IntN.{ℤ, pos, natAbs}
 use lib.ListN.{length, getD, drop, length-append, drop-of-length-le, List·getD-eq-default}
 use lib.Seq.{drop-at, drop-cons}
@@ -31,16 +32,39 @@ use Rattle.tables.proofs.Fields.{turned, a-setting}
 
 -- ---- look-ups
 
-abbrev pub at-most : ℕ → List ℕ → Bool
-at-most m [] = true
-at-most m (a ∷ l) = leb a m && at-most m l
+-- the digit of 4 bits of kind k in a number
+abbrev pub digit : ℕ → ℕ → ℕ
+digit n k = n / 2 ^ (k * 4) % 16
 
--- an element of a list whose elements are at most m, with any number for what is missing
-pub found : (m d : ℕ) (l : List ℕ) → T (at-most m l) → (k : ℕ) → k < length l
-    → (getD l k 0 ≡ getD l k d) × (getD l k 0 ≤ m)
-found m d [] t k h = absurd (omega arith)
-found m d (a ∷ l) t zero h = (refl, leb→le a m (T-and (leb a m) (at-most m l) .0 t .0))
-found m d (a ∷ l) t (suc k) h = found m d l (T-and (leb a m) (at-most m l) .0 t .1) k (omega arith)
+-- the first k digits of n are those of the list, and at most m: a test that the checker computes
+abbrev pub spells : (n m : ℕ) → List ℕ → ℕ → Bool
+spells n m l zero = true
+spells n m l (suc k) = eqb (digit n k) (getD l k 0) && (leb (digit n k) m && spells n m l k)
+
+spelled : (n m : ℕ) (l : List ℕ) (i : ℕ) → T (spells n m l i) → (k : ℕ) → k < i
+    → (digit n k ≡ getD l k 0) × (digit n k ≤ m)
+spelled n m l zero t k h = absurd (omega arith)
+spelled n m l (suc i) t k h =
+    let (same, more) = T-and (eqb (digit n i) (getD l i 0)) (leb (digit n i) m && spells n m l i) .0 t in
+    let (most, rest) = T-and (leb (digit n i) m) (spells n m l i) .0 more in
+    go (eqb→eq (digit n i) (getD l i 0) same, leb→le (digit n i) m most) (spelled n m l i rest k) (ℕ-discrete k i)
+  where
+    go : (digit n i ≡ getD l i 0) × (digit n i ≤ m) → (k < i → (digit n k ≡ getD l k 0) × (digit n k ≤ m)) → Dec (k ≡ i)
+        → (digit n k ≡ getD l k 0) × (digit n k ≤ m)
+    go here below (yes e) = subst (λ (j : ℕ). (digit n j ≡ getD l j 0) × (digit n j ≤ m)) (sym e) here
+    go here below (no f) = below (omega (arith, f))
+
+-- an element of the list that a number spells, with any number for what is missing
+pub found : (n m d : ℕ) (l : List ℕ) → T (spells n m l (length l)) → (k : ℕ) → k < length l
+    → (digit n k ≡ getD l k d) × (digit n k ≤ m)
+found n m d l t k h =
+    let (e, most) = spelled n m l (length l) t k h in
+    (e ∙ any l k h, most)
+  where
+    any : (l : List ℕ) (k : ℕ) → k < length l → getD l k 0 ≡ getD l k d
+    any [] k h = absurd (omega arith)
+    any (a ∷ l) zero h = refl
+    any (a ∷ l) (suc k) h = any l k (omega arith)
 
 pub missing : (m d : ℕ) (l : List ℕ) → d ≤ m → (k : ℕ) → length l ≤ k → (d ≡ getD l k d) × (d ≤ m)
 missing m d l e k h = (sym (List·getD-eq-default l d h), e)

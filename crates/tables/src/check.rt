@@ -55,14 +55,14 @@ fn nodes(t: &[u8], n: usize) -> Checked
     Checked::Table(n)
 }
 
-// By kind: how many children a node has.
-const CHILDREN: [usize; 11] = [0, 0, 2, 2, 1, 0, 0, 0, 1, 1, 0];
+// By kind, a digit of 4 bits each, that of kind 0 lowest: how many children a node has.
+const CHILDREN: usize = 0x01100012200;
 
 fn children(kind: usize) -> usize
     ensures { λ r. ⌜ r ≡ getD arities kind 0 ⌝ }
 {
     if kind < 11 {
-        return CHILDREN[kind];
+        return (CHILDREN >> (kind * 4)) % 16;
     }
     0
 }

@@ -69,18 +69,19 @@ fn has_divided(b: &[u8]) -> bool
     false
 }
 
-// By kind: how many words a body has.
-const WIDTHS: [usize; 11] = [1, 1, 2, 2, 1, 8, 9, 9, 2, 2, 8];
+// By kind, a digit of 4 bits each, that of kind 0 lowest: how many words a body has. An array would be written into each
+// caller's frame.
+const WIDTHS: usize = 0x82299812211;
 
-// By kind: the form of what follows it (nothing, a right child, a sum, a divisor and a sum, a setting).
-const FORMS: [usize; 11] = [0, 0, 1, 1, 0, 2, 3, 3, 4, 4, 2];
+// By kind, likewise: the form of what follows it (nothing, a right child, a sum, a divisor and a sum, a setting).
+const FORMS: usize = 0x24433201100;
 
 // How many words a body of this kind has; an unknown kind has none.
 pub fn width(kind: usize) -> usize
     ensures { λ r. ⌜ (r ≡ getD widths kind 0) × (r ≤ 9) ⌝ }
 {
     if kind < 11 {
-        return WIDTHS[kind];
+        return (WIDTHS >> (kind * 4)) % 16;
     }
     0
 }
@@ -90,7 +91,7 @@ fn form(kind: usize) -> usize
     ensures { λ r. ⌜ (r ≡ getD forms kind 5) × (r ≤ 5) ⌝ }
 {
     if kind < 11 {
-        return FORMS[kind];
+        return (FORMS >> (kind * 4)) % 16;
     }
     5
 }

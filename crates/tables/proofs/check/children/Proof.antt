@@ -1,8 +1,8 @@
--- `check::children` meets its contract: the table of arities, and none for an unknown kind.
+-- `check::children` meets its contract: a kind below 11 has its children in the number, and no other kind has any.
 -- Assumes nothing.
 use native.Mathlib.Omega.{arith}
 use Rattle.tables.specs.Checks.{arities}
-use Rattle.tables.proofs.KindLaws.{missing}
+use Rattle.tables.proofs.KindLaws.{found, missing}
 use borrow.Author.Needs.{needs}
 use Rattle.tables.proofs.check.children.Statement.{statement}
 use Rattle.tables.proofs.check.children.Tie as tie
@@ -12,14 +12,14 @@ use Rattle.tables.proofs.check.children.Lts as lts
 mul-result : tie.Need-mul-result
 mul-result c = search needs
 
-array-read-result : tie.Need-array-read-result
-array-read-result c = search needs
+shr-result : tie.Need-shr-result
+shr-result c = search needs
 
 returns : tie.Need-returns
-returns c = search needs
+returns c = found 73014518272 2 0 arities tt _ (c .if1 .taken) .0
 
 returns-2 : tie.Need-returns-2
 returns-2 c = missing 2 0 arities (omega arith) _ (c .if1 .left) .0
 
 pub children-spec : {M : Type 1} → statement M
-children-spec = tie.close (tie.spec mul-result array-read-result returns returns-2)
+children-spec = tie.close (tie.spec mul-result shr-result returns returns-2)
