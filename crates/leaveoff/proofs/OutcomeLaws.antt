@@ -104,11 +104,12 @@ module _ (l : List ℕ) (s1 s2 s3 s4 s5 s6 : ℤ) where
       go (given true) b = fits 0 1 (omega arith) (omega arith)
       go (given false) b = fits 0 2 (omega arith) (omega arith)
 
--- the values as they are handed on
-pub matched-again : (l : List ℕ) {s1 s2 s3 s4 s5 s6 : ℤ}
+-- an answer to the values as they are handed on is one to the values as they were given
+pub matched-again : (l : List ℕ) {s1 s2 s3 s4 s5 s6 : ℤ} {a : Answer}
     → SFits w32 s1 → SFits w32 s2 → SFits w32 s3 → SFits w32 s4 → SFits w32 s5 → SFits w32 s6
-    → matched l (toZ w32 (ofZ w32 s1)) (toZ w32 (ofZ w32 s2)) (toZ w32 (ofZ w32 s3)) (toZ w32 (ofZ w32 s4))
-    (toZ w32 (ofZ w32 s5)) (toZ w32 (ofZ w32 s6)) ≡ matched l s1 s2 s3 s4 s5 s6
+    → a ≡ matched l (toZ w32 (ofZ w32 s1)) (toZ w32 (ofZ w32 s2)) (toZ w32 (ofZ w32 s3)) (toZ w32 (ofZ w32 s4))
+    (toZ w32 (ofZ w32 s5)) (toZ w32 (ofZ w32 s6))
+    → a ≡ matched l s1 s2 s3 s4 s5 s6
 unfolding matched
-matched-again l f1 f2 f3 f4 f5 f6 =
-    ap (λ (vs : List ℤ). match-answer (rule-of l >>= matching vs)) (values-again f1 f2 f3 f4 f5 f6)
+matched-again l f1 f2 f3 f4 f5 f6 e =
+    e ∙ ap (λ (vs : List ℤ). match-answer (rule-of l >>= matching vs)) (values-again f1 f2 f3 f4 f5 f6)

@@ -24,6 +24,16 @@ use Rattle.leaveoff.proofs.Literals.{values-again}
 abbrev again : ℤ → ℤ
 again v = toZ w32 (ofZ w32 v)
 
+-- what is found of the values as they are handed on is so of the values as they were given
+pub within-again : {s1 s2 s3 s4 s5 s6 : ℤ} {x : Bool}
+    → SFits w32 s1 → SFits w32 s2 → SFits w32 s3 → SFits w32 s4 → SFits w32 s5 → SFits w32 s6
+    → x ≡ all-within most-value (again s1 ∷ again s2 ∷ again s3 ∷ again s4 ∷ again s5 ∷ again s6 ∷ [])
+    → x ≡ all-within most-value (s1 ∷ s2 ∷ s3 ∷ s4 ∷ s5 ∷ s6 ∷ [])
+within-again f1 f2 f3 f4 f5 f6 e = e ∙ ap (all-within most-value) (values-again f1 f2 f3 f4 f5 f6)
+
+pub were-within : {b w : Bool} → b ≡ true → b ≡ w → T w
+were-within e f = subst T (sym e ∙ f) tt
+
 first-fits : (v : ℤ) (vs : List ℤ) → T (all-within most-value (v ∷ vs)) → SFits w32 v × T (all-within most-value vs)
 unfolding all-within
 first-fits v vs t =

@@ -21,9 +21,9 @@ outcome : (c : lts.After-matches calls reads.Pre reads.Post)
     → (let a = c .before .before .args in
     answer-of (c .matches .result) ≡ matched (a .table .now) (a .s1) (a .s2) (a .s3) (a .s4) (a .s5) (a .s6))
 outcome c =
-    let f = c .before .before .fits in
-    c .matches .ensures .0
-    ∙ matched-again (c .before .before .args .table .now) (f .s1) (f .s2) (f .s3) (f .s4) (f .s5) (f .s6)
+    let start = c .before .before in
+    let f = start .fits in
+    matched-again (start .args .table .now) (f .s1) (f .s2) (f .s3) (f .s4) (f .s5) (f .s6) (c .matches .ensures .0)
 
 matches-requires : tie.Need-matches-requires
 matches-requires c κs = search needs

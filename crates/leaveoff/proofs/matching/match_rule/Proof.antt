@@ -1,11 +1,10 @@
 -- `matching::match_rule` meets its contract: 10 for a quantifier, then 9 for a value out of range, then the verdict.
 -- Assumes nothing.
-use mathlib.Core.Path.{_≡_, refl, sym, _∙_, ap, subst}
+use mathlib.Core.Path.{_≡_, refl, sym, _∙_, ap}
 use mathlib.Core.Bool.{Bool, true, false, cond}
 use mathlib.Core.List.{List, [], _∷_}
 use Prim.Native.Nat.{_+_, _*_, _≤_}
 use native.Mathlib.Omega.{arith}
-use lib.Dec.{T}
 use lib.IntN.{ℤ}
 use lib.ListN.{length}
 use Rattle.rules.specs.Sum.{all-within}
@@ -18,6 +17,7 @@ use Rattle.tables.proofs.WalkLaws.{part-long}
 use Rattle.tables.proofs.Passed.{TableOf, passed, table-inside, table-most, table-listed}
 use Rattle.leaveoff.specs.Outcome.{verdict-alone}
 use Rattle.leaveoff.proofs.Literals.{values-again}
+use Rattle.leaveoff.proofs.Values.{within-again, were-within}
 use Rattle.leaveoff.proofs.MatchingLaws.{part-words}
 use Rattle.leaveoff.proofs.MatchedLaws.{scanned, matchable, refused-10, refused-9, answered}
 use borrow.Author.Tests.{not-true, not-false}
@@ -83,8 +83,7 @@ in-range : (c : lts.After-all-within calls reads.Pre reads.Post)
     → c .all-within .result ≡ all-within most-value (values (known (c .before) .before))
 in-range c =
     let f = known (c .before) .before .fits in
-    c .all-within .ensures
-    ∙ ap (all-within most-value) (values-again (f .s1) (f .s2) (f .s3) (f .s4) (f .s5) (f .s6))
+    within-again (f .s1) (f .s2) (f .s3) (f .s4) (f .s5) (f .s6) (c .all-within .ensures)
 
 -- what the walk says of the rule
 says : (c : lts.After-verdict calls reads.Pre reads.Post)
@@ -92,10 +91,10 @@ says : (c : lts.After-verdict calls reads.Pre reads.Post)
     c .verdict .result
     ≡ holds (table (known (before-walk .before .before)) .0) (choice (values (start before-walk))))
 says c =
-    let unbound = settled c .before .before in
-    let f = known unbound .before .fits in
-    let (r, t) = table (known unbound) in
-    c .verdict .ensures r (matchable t (none unbound))
+    let free = settled c .before .before in
+    let f = known free .before .fits in
+    let (r, t) = table (known free) in
+    c .verdict .ensures r (matchable t (none free))
     ∙ ap (λ (vs : List ℤ). holds r (choice vs)) (values-again (f .s1) (f .s2) (f .s3) (f .s4) (f .s5) (f .s6))
 
 -- and the answer that it gives
@@ -104,10 +103,10 @@ answer : (c : lts.After-verdict calls reads.Pre reads.Post) (b : Bool) → c .ve
     verdict-alone (cond b 1 2) ≡ matched (a .t .now) (a .s1) (a .s2) (a .s3) (a .s4) (a .s5) (a .s6))
 answer c b e =
     let in-all = settled c in
-    let unbound = in-all .before .before in
-    let (r, t) = table (known unbound) in
+    let free = in-all .before .before in
+    let (r, t) = table (known free) in
     ap (λ (d : Bool). verdict-alone (cond d 1 2)) (sym e ∙ says c)
-    ∙ sym (answered t _ _ _ _ _ _ (none unbound) (sym (in-range (in-all .before)) ∙ not-false _ (in-all .if2 .left)))
+    ∙ sym (answered t _ _ _ _ _ _ (none free) (sym (in-range (in-all .before)) ∙ not-false _ (in-all .if2 .left)))
 
 add-from : tie.Need-add-from
 add-from c = omega (arith, bodies-near c)
@@ -180,16 +179,16 @@ slice-aggregate-verdict c = search needs
 verdict-requires : tie.Need-verdict-requires
 verdict-requires c κs =
     let in-all = c .before .before .before in
-    let unbound = in-all .before .before in
+    let free = in-all .before .before in
     let a = start in-all .args in
-    let (r, t) = table (known unbound) in
-    let within = sym (not-false _ (in-all .if2 .left)) ∙ in-all .before .all-within .ensures in (
+    let (r, t) = table (known free) in
+    let within = not-false _ (in-all .if2 .left) in (
       (
-        record { rule = r; at = matchable t (none unbound) },
+        record { rule = r; at = matchable t (none free) },
         omega (arith, table-most t, part-long (a .t .now) 1),
         omega (arith, table-inside t, table-most t, part-words (a .t .now) (a .n + 1)),
       ),
-      (refl, subst T within tt),
+      (refl, were-within within (in-all .before .all-within .ensures)),
     )
 
 matched-requires : tie.Need-matched-requires

@@ -41,8 +41,7 @@ returns-2 c =
     let start = c .before .before .before .before .before .before in
     let f = start .fits in
     let outcome =
-    c .match-rule .ensures
-    ∙ matched-again (start .args .t .now) (f .s1) (f .s2) (f .s3) (f .s4) (f .s5) (f .s6) in
+    matched-again (start .args .t .now) (f .s1) (f .s2) (f .s3) (f .s4) (f .s5) (f .s6) (c .match-rule .ensures) in
     (outcome, subst (SaysWhether _ _) (sym outcome) (says-whether _ _ _ _ _ _ _))
 
 pub matches-spec : {M : Type 1} → statement M
