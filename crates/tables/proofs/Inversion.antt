@@ -61,7 +61,7 @@ pub data Shape (es bs : List ℤ) (n p k : ℕ) : Rule → Type 0 where
   negation : (a : Rule) → k ≡ 4 → Stands (drop 1 es) (drop 1 bs) (n + 1) (p + 1) a → Shape es bs n p k (Not a)
   literal : (t : Test) (s : Sum) → k ≡ test-kind t → BodyAt bs n t s → Shape es bs n p k (Literal t s)
   bind : (q : Quantifier) (v : ℕ) (a : Rule) → k ≡ bind-kind q → getD bs 1 (pos 0) ≡ pos v
-    → Stands (drop 1 es) (drop 2 bs) (n + 1) (p + 2) a → Shape es bs n p k (Bind q v a)
+      → Stands (drop 1 es) (drop 2 bs) (n + 1) (p + 2) a → Shape es bs n p k (Bind q v a)
 
 module _ {es bs : List ℤ} {n p : ℕ} where
   kind-word : (a : Rule) → Stands es bs n p a → getD bs 0 (pos 0) ≡ pos (rule-kind a)
