@@ -11,8 +11,38 @@ use Rattle.whole.specs.Integers.{eqZ}
 use Rattle.rules.specs.Sum.{limit, all-within}
 use Rattle.rules.specs.Rule.{Junction, and, or, Quantifier, for-some, for-all, Test, positive, is-zero, Rule}
 use Rattle.rules.specs.Result.{Result, refused, given, _>>=_, require}
-use Rattle.rules.specs.Table.{Node, constant-node, join-node, not-node, literal-node, bind-node, most-words, width, count, is-setting, is-divisor}
-use Rattle.rules.specs.Decode.{Field, cut, word, checked, sum-field, nothing-more, right-child, sum-of, divisor-and-sum, setting-of, kinds, node, read, before, trees, only-tree, decode}
+use Rattle.rules.specs.Table.{
+  Node,
+  constant-node,
+  join-node,
+  not-node,
+  literal-node,
+  bind-node,
+  most-words,
+  width,
+  count,
+  is-setting,
+  is-divisor,
+}
+use Rattle.rules.specs.Decode.{
+  Field,
+  cut,
+  word,
+  checked,
+  sum-field,
+  nothing-more,
+  right-child,
+  sum-of,
+  divisor-and-sum,
+  setting-of,
+  kinds,
+  node,
+  read,
+  before,
+  trees,
+  only-tree,
+  decode,
+}
 use Rattle.rules.specs.Chosen.{quantified}
 use Rattle.rules.specs.Match.{most-value, matching}
 use Rattle.rules.specs.Calls.{words, rule-of}
@@ -31,6 +61,11 @@ by-require : (m : ℕ) (b : Bool) (n : ℕ) → 1 ≤ n → n ≤ m → By m (re
 unfolding By require
 by-require m true n h l = tt
 by-require m false n h l = (h, l)
+
+-- a test, and what follows where it is passed
+by-test : {B : Type 0} (m : ℕ) (b : Bool) (n : ℕ) → 1 ≤ n → n ≤ m → (f : Unit {0} → Result B) → By m (f tt)
+    → By m (require b n >>= f)
+by-test m b n h l f g = by-then m (require b n) f (by-require m b n h l) (λ u. g)
 
 by-more : {A : Type 0} (m n : ℕ) (x : Result A) → m ≤ n → By m x → By n x
 unfolding By
@@ -51,13 +86,13 @@ cut-fair k h l (suc n) (w ∷ ws) = by-then 4 (cut k n ws) (λ p. given (w ∷ p
 checked-fair : (test : ℤ → Bool) → Fair (checked test)
 unfolding By checked word _>>=_
 checked-fair test [] = (omega arith, omega arith)
-checked-fair test (w ∷ ws) = by-then 4 (require (test w) 3) _ (by-require 4 (test w) 3 (omega arith) (omega arith)) (λ u. tt)
+checked-fair test (w ∷ ws) = by-test 4 (test w) 3 (omega arith) (omega arith) _ tt
 
 sum-field-fair : Fair sum-field
 unfolding By sum-field
 sum-field-fair ws =
     by-then 4 (cut 3 7 ws) _ (cut-fair 3 (omega arith) (omega arith) 7 ws)
-    (λ p. by-then 4 (require (all-within limit (p .0)) 3) _ (by-require 4 (all-within limit (p .0)) 3 (omega arith) (omega arith)) (λ u. tt))
+    (λ p. by-test 4 (all-within limit (p .0)) 3 (omega arith) (omega arith) _ tt)
 
 -- ---- nodes
 
@@ -122,9 +157,10 @@ unfolding By read
 read-by i [] p [] = tt
 read-by i [] p (w ∷ ws) = (omega arith, omega arith)
 read-by i (e ∷ es) p ws =
-    by-then 4 (require (eqZ e (pos p)) 2) _ (by-require 4 (eqZ e (pos p)) 2 (omega arith) (omega arith))
-    (λ u. by-then 4 (node i ws) _ (node-fair i ws)
-    (λ d. by-then 4 (read (i + 1) es (p + width (d .0)) (d .1)) _ (read-by (i + 1) es (p + width (d .0)) (d .1)) (λ ds. tt)))
+    by-test 4 (eqZ e (pos p)) 2 (omega arith) (omega arith) _
+    (by-then 4 (node i ws) _ (node-fair i ws)
+    (λ d. by-then 4 (read (i + 1) es (p + width (d .0)) (d .1)) _ (read-by (i + 1) es (p + width (d .0)) (d .1))
+    (λ ds. tt)))
 
 before-by : (d : Node) (f : List Rule) → By 4 (before d f)
 unfolding By before
@@ -132,7 +168,7 @@ before-by (constant-node b) f = tt
 before-by (join-node j right) [] = (omega arith, omega arith)
 before-by (join-node j right) (a ∷ []) = (omega arith, omega arith)
 before-by (join-node j right) (a ∷ b ∷ f) =
-    by-then 4 (require (eqZ right (pos (1 + count a))) 4) _ (by-require 4 (eqZ right (pos (1 + count a))) 4 (omega arith) (omega arith)) (λ u. tt)
+    by-test 4 (eqZ right (pos (1 + count a))) 4 (omega arith) (omega arith) _ tt
 before-by not-node [] = (omega arith, omega arith)
 before-by not-node (a ∷ f) = tt
 before-by (literal-node t s) f = tt
@@ -155,17 +191,15 @@ unfolding By decode
 decode-by [] = (omega arith, omega arith)
 decode-by (negsuc n ∷ ws) = (omega arith, omega arith)
 decode-by (pos n ∷ ws) =
-    by-then 4 (require (leb (suc (length ws)) most-words && leb 1 n) 1) _
-    (by-require 4 (leb (suc (length ws)) most-words && leb 1 n) 1 (omega arith) (omega arith))
-    (λ u. by-then 4 (cut 1 n ws) _ (cut-fair 1 (omega arith) (omega arith) n ws)
+    by-test 4 (leb (suc (length ws)) most-words && leb 1 n) 1 (omega arith) (omega arith) _
+    (by-then 4 (cut 1 n ws) _ (cut-fair 1 (omega arith) (omega arith) n ws)
     (λ p. by-then 4 (read 0 (p .0) (n + 1) (p .1)) _ (read-by 0 (p .0) (n + 1) (p .1))
     (λ ds. by-then 4 (trees ds) only-tree (trees-by ds) only-tree-by)))
 
 pub rule-of-by : (l : List ℕ) → By 4 (rule-of l)
 unfolding rule-of
 rule-of-by l =
-    by-then 4 (require (eqb (length l % 4) 0) 1) _ (by-require 4 (eqb (length l % 4) 0) 1 (omega arith) (omega arith))
-    (λ u. decode-by (words l))
+    by-test 4 (eqb (length l % 4) 0) 1 (omega arith) (omega arith) _ (decode-by (words l))
 
 -- ---- matching
 
@@ -173,6 +207,5 @@ pub matching-by : (l : List ℕ) (vs : List ℤ) → By 10 (rule-of l >>= matchi
 unfolding By matching
 matching-by l vs =
     by-then 10 (rule-of l) (matching vs) (by-more 4 10 (rule-of l) (omega arith) (rule-of-by l))
-    (λ r. by-then 10 (require (not (quantified r)) 10) _ (by-require 10 (not (quantified r)) 10 (omega arith) (omega arith))
-    (λ u. by-then 10 (require (all-within most-value vs) 9) _ (by-require 10 (all-within most-value vs) 9 (omega arith) (omega arith))
-    (λ w. tt)))
+    (λ r. by-test 10 (not (quantified r)) 10 (omega arith) (omega arith) _
+    (by-test 10 (all-within most-value vs) 9 (omega arith) (omega arith) _ tt))

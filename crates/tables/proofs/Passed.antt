@@ -55,7 +55,8 @@ module _ {l : List ℕ} {n : ℕ} {r : Rule} (t : TableOf l n r) where
   stands-whole =
       subst (λ (k : ℕ). Stands (drop 1 (words l)) (drop (k + 1) (words l)) 0 (k + 1) r) (sym (t .counted))
       (subst (λ (k : ℕ). Stands (drop 1 (words l)) (drop k (words l)) 0 (count r + 1) r) one-more
-      (subst (λ (W : List ℤ). Stands (drop 1 W) (drop (1 + count r) W) 0 (count r + 1) r) (sym table-words) (whole-stands r)))
+      (subst (λ (W : List ℤ). Stands (drop 1 W) (drop (1 + count r) W) 0 (count r + 1) r) (sym table-words)
+      (whole-stands r)))
     where
       one-more : 1 + count r ≡ count r + 1
       one-more = omega arith
@@ -72,7 +73,8 @@ module _ {l : List ℕ} {n : ℕ} {r : Rule} (t : TableOf l n r) where
   pub table-bodies : part l (n + 1) ≡ bodies 0 (nodes r)
   table-bodies =
       let place : n + 1 ≡ 1 + count r = omega (arith, t .counted) in
-      words-from l (n + 1) ∙ ap (λ (k : ℕ). drop k (words l)) place ∙ ap (drop (1 + count r)) table-words ∙ whole-bodies r
+      words-from l (n + 1) ∙ ap (λ (k : ℕ). drop k (words l)) place
+      ∙ ap (drop (1 + count r)) table-words ∙ whole-bodies r
 
   pub table-long : length (nodes r) ≡ n
   table-long = length-nodes r ∙ sym (t .counted)
