@@ -12,7 +12,7 @@ use lib.ListN.{length, getD, take, drop, length-drop}
 use Rattle.rules.specs.Sum.{Sum, value}
 use Rattle.rules.specs.Rule.{Junction, and, or, Test, positive, divisible, is-zero}
 use Rattle.rules.specs.Rule.{Rule, Constant, Join, Not, Literal, Bind, passes}
-use Rattle.rules.specs.Table.{literal-node, bodies, count}
+use Rattle.rules.specs.Table.{literal-node, count}
 use Rattle.rules.specs.Chosen.{quantifiers}
 use Rattle.rules.specs.Laws.{Each}
 use Rattle.rules.specs.Match.{joined, holds, choice}
@@ -22,7 +22,7 @@ use Rattle.rules.proofs.Sizes.{words, weight, count-pos}
 use Rattle.tables.specs.Standing.{Stands}
 use Rattle.tables.proofs.WordLaws.{number-of, words-from, words-length}
 use Rattle.tables.proofs.WalkLaws.{part}
-use Rattle.tables.proofs.Standings.{right, inside-entries, inside-bodies}
+use Rattle.tables.proofs.Standings.{inside-entries, inside-bodies}
 use Rattle.tables.proofs.Inversion.{join-kind, test-kind, Shape as Stood, shape as stood}
 use Rattle.tables.proofs.Inversion.{
   constant as stood-constant,
