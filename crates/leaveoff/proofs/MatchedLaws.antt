@@ -4,6 +4,7 @@ use mathlib.Core.Path.{_≡_, refl, sym, _∙_, ap, ap₂, subst}
 use mathlib.Core.Bool.{Bool, true, false, not, cond}
 use mathlib.Core.List.{List, [], _∷_}
 use Prim.Native.Nat.{ℕ, _+_}
+use native.Mathlib.Omega.{arith}
 use lib.Dec.{T}
 use lib.IntN.{ℤ}
 use lib.ListN.{length}
@@ -22,7 +23,7 @@ use Rattle.tables.proofs.WalkLaws.{part}
 use Rattle.tables.proofs.Passed.{TableOf, table-formed, table-stands, table-bodies, table-long, table-good}
 use Rattle.leaveoff.specs.Quantifiers.{binds}
 use Rattle.leaveoff.specs.Matching.{Matchable}
-use Rattle.leaveoff.specs.Outcome.{verdict-alone}
+use Rattle.leaveoff.specs.Outcome.{due-number, verdict-alone}
 use Rattle.leaveoff.proofs.QuantifierLaws.{binds-rule}
 
 module _ {l : List ℕ} {n : ℕ} {r : Rule} (t : TableOf l n r) where
@@ -53,11 +54,11 @@ module _ {l : List ℕ} {n : ℕ} {r : Rule} (t : TableOf l n r) where
     matching-by q w e f = ap₂
         (λ (q w : Bool). require (not q) 10 >>= λ u. require w 9 >>= λ v. given (holds r (choice values))) e f
 
-    pub refused-10 : quantified r ≡ true → matched l s1 s2 s3 s4 s5 s6 ≡ refusal 10
+    refused-10 : quantified r ≡ true → matched l s1 s2 s3 s4 s5 s6 ≡ refusal 10
     unfolding match-answer require _>>=_
     refused-10 e = outcome-is (refused 10) (matching-by true _ e refl)
 
-    pub refused-9 : quantified r ≡ false → all-within most-value values ≡ false
+    refused-9 : quantified r ≡ false → all-within most-value values ≡ false
         → matched l s1 s2 s3 s4 s5 s6 ≡ refusal 9
     unfolding match-answer require _>>=_
     refused-9 e f = outcome-is (refused 9) (matching-by false false e f)
@@ -66,3 +67,16 @@ module _ {l : List ℕ} {n : ℕ} {r : Rule} (t : TableOf l n r) where
         → matched l s1 s2 s3 s4 s5 s6 ≡ verdict-alone (cond (holds r (choice values)) 1 2)
     unfolding match-answer require _>>=_
     answered e f = outcome-is (given (holds r (choice values))) (matching-by false true e f)
+
+    -- the number that is due refuses it
+    pub due-refused : (q w : Bool) (k : ℕ) → quantified r ≡ q → all-within most-value values ≡ w → k ≡ due-number q w
+        → ¬ (k ≡ 0) → matched l s1 s2 s3 s4 s5 s6 ≡ refusal k
+    due-refused true w k e f i some = refused-10 e ∙ ap refusal (sym i)
+    due-refused false false k e f i some = refused-9 e f ∙ ap refusal (sym i)
+    due-refused false true k e f i some = absurd (some i)
+
+-- none is due
+pub none-due : (q w : Bool) (k : ℕ) → k ≡ due-number q w → k ≡ 0 → (q ≡ false) × (w ≡ true)
+none-due true w k i z = absurd (omega arith)
+none-due false true k i z = (refl, refl)
+none-due false false k i z = absurd (omega arith)

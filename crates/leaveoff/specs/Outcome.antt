@@ -1,6 +1,7 @@
 -- The answers of the calls as the code gives them, and packed into 64 bits.
 -- Assumes nothing.
 use mathlib.Core.Path.{_≡_}
+use mathlib.Core.Bool.{Bool, cond}
 use mathlib.Core.List.{List}
 use Prim.Native.Nat.{ℕ, _+_, _*_, _/_, _%_, _<_}
 use lib.IntN.{ℤ}
@@ -15,6 +16,10 @@ use Rattle.leaveoff.specs.declared.answer.Answer as declared
 -- the paper's number and values of an answer
 abbrev pub answer-of : declared.Answer → Answer
 answer-of a = record { number = a .number; verdict = a .verdict; words = a .words; settings = a .settings }
+
+-- "for matching 10, then 9"; 0 where neither is due
+abbrev pub due-number : Bool → Bool → ℕ
+due-number quantified in-range = cond quantified 10 (cond in-range 0 9)
 
 -- what matching answers: a verdict, and no table
 abbrev pub verdict-alone : ℕ → Answer

@@ -21,7 +21,7 @@ ghost use Rattle.tables.specs.Checks.{Verdict};
 ghost use Rattle.tables.specs.declared.check.Checked.the-variants.{Table};
 ghost use Rattle.leaveoff.specs.Literal.{LiteralAt, SomeLiteral};
 ghost use Rattle.leaveoff.specs.Matching.{Matchable, SomeMatchable};
-ghost use Rattle.leaveoff.specs.Outcome.{answer-of, SaysWhether};
+ghost use Rattle.leaveoff.specs.Outcome.{answer-of, due-number, SaysWhether};
 
 // Whether the literal whose body starts these words holds at the values.
 fn literal_holds(bodies: &[u8], values: &[i32]) -> bool
@@ -98,17 +98,30 @@ fn all_within(s1: i32, s2: i32, s3: i32, s4: i32, s5: i32, s6: i32) -> bool
     within(s1, b2)
 }
 
-// Matching a table that passed the check, of n nodes: 10, then 9, then whether it holds.
+// "for matching 10, then 9": the number that is due, 0 where none is.
+fn due(quantified: bool, in_range: bool) -> u32
+    ensures { λ r. ⌜ r ≡ due-number quantified in_range ⌝ }
+{
+    if quantified {
+        return 10;
+    }
+    if in_range {
+        return 0;
+    }
+    9
+}
+
+// Matching a table that passed the check, of n nodes: a refusal, or whether it holds.
 fn match_rule(t: &[u8], n: usize, s1: i32, s2: i32, s3: i32, s4: i32, s5: i32, s6: i32) -> Answer
     requires { ⌜ Verdict (rule-of (now t)) (Table n) ⌝ }
     ensures { λ r. ⌜ answer-of r ≡ matched (now (t .entry)) s1 s2 s3 s4 s5 s6 ⌝ }
 {
     let from = (n + 1) * 4;
-    if quantifiers::quantified(&t[from..], n) {
-        return answer::refused(10);
-    }
-    if !all_within(s1, s2, s3, s4, s5, s6) {
-        return answer::refused(9);
+    let quantified = quantifiers::quantified(&t[from..], n);
+    let in_range = all_within(s1, s2, s3, s4, s5, s6);
+    let number = due(quantified, in_range);
+    if number != 0 {
+        return answer::refused(number);
     }
     let values = [s1, s2, s3, s4, s5, s6];
     if verdict(&t[4..], &t[from..], 0, n + 1, &values) {
