@@ -12,7 +12,7 @@ use Rattle.rules.specs.Sum.{Sum}
 use Rattle.rules.specs.Rule.{Rule, Test, positive, divisible, is-zero, Quantifier, for-some, for-all}
 use Rattle.rules.specs.Table.{Node, constant-node, join-node, not-node, literal-node, bind-node}
 use Rattle.rules.specs.Table.{body, count, nodes, size}
-use Rattle.rules.proofs.Sizes.{before-sum, words, weight, total}
+use Rattle.rules.proofs.Sizes.{weight, total, words-pos}
 use Rattle.rules.proofs.Sizes.{length-body, length-nodes, total-nodes, weight-is, size-is}
 use Rattle.builder.specs.Built.{Ends, Built, Countable, most-counted, unplaced, junction, quantifier, compared}
 use Rattle.builder.specs.declared.push.State.{State}
@@ -109,16 +109,6 @@ pub length-unplaced : (ds : List Node) → length (unplaced ds) ≡ total ds
 unfolding unplaced total
 length-unplaced [] = refl
 length-unplaced (d ∷ ds) = simp (length-append, length-body, length-unplaced ds)
-
-words-pos : (d : Node) → 1 ≤ words d
-unfolding words before-sum
-words-pos (constant-node b) = omega arith
-words-pos (join-node j right) = omega arith
-words-pos not-node = omega arith
-words-pos (literal-node positive s) = omega arith
-words-pos (literal-node (divisible b k) s) = omega arith
-words-pos (literal-node is-zero s) = omega arith
-words-pos (bind-node q v) = omega arith
 
 nodes-few : (ds : List Node) → length ds ≤ total ds
 unfolding total

@@ -52,7 +52,7 @@ pub fn part(t: &[u8], p: usize, size: usize, out: &mut [u8], used: usize) -> usi
 }
 
 // Word i of a sum.
-fn at(sum: &[i32], i: usize) -> i32
+pub fn at(sum: &[i32], i: usize) -> i32
     requires { ⌜ i < length (now sum) ⌝ }
     ensures { λ r. ⌜ r ≡ getD (now (sum .entry)) i (pos 0) ⌝ }
 {

@@ -30,7 +30,7 @@ use Rattle.rules.proofs.OverLiterals.{normal-imp, normal-both, gathered
 
 -- ---- D is positive, and a multiple of the size of each nonzero factor
 
-sizes-positive : (x : ℕ) (t : Test) (s : Sum) → All (λ k. 0 < k) (size-of x t s)
+pub sizes-positive : (x : ℕ) (t : Test) (s : Sum) → All (λ k. 0 < k) (size-of x t s)
 unfolding size-of All
 sizes-positive x t s = by-factor (factor x s)
   where
@@ -47,7 +47,7 @@ common-factor-pos x a n =
     lcms-pos sizes (gathered-all (size-of x) NoZero (λ k. 0 < k) (λ t s h. sizes-positive x t s) a n)
 
 -- the size of the literal's factor, where it has one, divides D
-pub SizeDivides : ℕ → ℕ → Test → Sum → Type 0
+unfoldable pub SizeDivides : ℕ → ℕ → Test → Sum → Type 0
 SizeDivides D x t s = All (λ k. Divides k (pos D)) (size-of x t s)
 
 pub sizes-divide : (x : ℕ) (a : Rule) → Normal NoZero a → Normal (SizeDivides (common-factor x a) x) a

@@ -67,7 +67,7 @@ module _ (x : ℕ) (s : Sum) where
 
 -- ---- each bound is there once, and none is lost
 
-same→eq : (s t : Sum) → T (same s t) → s ≡ t
+pub same→eq : (s t : Sum) → T (same s t) → s ≡ t
 unfolding same
 same→eq [] [] h = refl
 same→eq [] (b ∷ t) h = absurd h
@@ -76,7 +76,7 @@ same→eq (a ∷ s) (b ∷ t) h =
     let k = T-and (eqZ a b) (same s t) .0 h in
     ap (λ z. z ∷ s) (eqZ→eq a b (k .0)) ∙ ap (λ (l : Sum). b ∷ l) (same→eq s t (k .1))
 
-any-without : (b c : Sum) (l : List Sum) → Any (λ d. d ≡ c) l → (b ≡ c) ⊎ Any (λ d. d ≡ c) (without b l)
+pub any-without : (b c : Sum) (l : List Sum) → Any (λ d. d ≡ c) l → (b ≡ c) ⊎ Any (λ d. d ≡ c) (without b l)
 unfolding Any without
 any-without b c [] h = absurd h
 any-without b c (d ∷ l) h = cond-ind (same b d) (without b l) (d ∷ without b l)
@@ -346,7 +346,7 @@ any-of-holds [] ρ = Iff·rfl
 any-of-holds (a ∷ []) ρ = (λ h. inl h, λ h. elim h [ inl k ↦ k | inr k ↦ absurd k ])
 any-of-holds (a ∷ b ∷ l) ρ = ⊎-iff Iff·rfl (any-of-holds (b ∷ l) ρ)
 
-abbrev From : ℕ → ℕ → (ℕ → Type 0) → Type 0
+abbrev pub From : ℕ → ℕ → (ℕ → Type 0) → Type 0
 From from n Q = (j : ℕ) × (from ≤ j) × (j < from + n) × Q j
 
 from-suc : (from n : ℕ) (Q : ℕ → Type 0) → (Q from ⊎ From (suc from) n Q) ↔ From from (suc n) Q
@@ -362,14 +362,14 @@ from-suc from n Q = (to, fro)
       | inr l ↦ inr (r .0, l, omega (arith, r .2), r .3)
     ]
 
-any-for-each : {A : Type 0} (Q : A → Type 0) (from n : ℕ) (f : ℕ → List A)
+pub any-for-each : {A : Type 0} (Q : A → Type 0) (from n : ℕ) (f : ℕ → List A)
     → Any Q (for-each from n f) ↔ From from n (λ j. Any Q (f j))
 unfolding for-each Any
 any-for-each Q from zero f = (λ h. absurd h, λ h. absurd (omega (arith, h .1, h .2)))
 any-for-each Q from (suc n) f = Iff·trans (any-append Q (f from) (for-each (suc from) n f))
     (Iff·trans (⊎-iff Iff·rfl (any-for-each Q (suc from) n f)) (from-suc from n (λ j. Any Q (f j))))
 
-up-to : (P : ℕ) (Q R : ℕ → Type 0) → ((j : ℕ) → Q j ↔ R j) → From 1 P Q ↔ UpTo P R
+pub up-to : (P : ℕ) (Q R : ℕ → Type 0) → ((j : ℕ) → Q j ↔ R j) → From 1 P Q ↔ UpTo P R
 up-to P Q R h = (
   λ r. (r .0, r .1, omega (arith, r .2), h (r .0) .0 (r .3)),
   λ r. (r .0, r .1, omega (arith, r .2), h (r .0) .1 (r .3)),
@@ -432,10 +432,10 @@ cooper-theorem P x a g p u d ρ = disjunction-cooper P x a g u ρ p d
 
 -- ---- the period is such a P
 
-abbrev PositiveDivisor : Test → Sum → Type 0
+abbrev pub PositiveDivisor : Test → Sum → Type 0
 PositiveDivisor t s = DivisorOf (λ k. 0 < k) t
 
-divisors-positive : (t : Test) (s : Sum) → PositiveDivisor t s → All (λ k. 0 < k) (divisor-of t s)
+pub divisors-positive : (t : Test) (s : Sum) → PositiveDivisor t s → All (λ k. 0 < k) (divisor-of t s)
 unfolding All
 divisors-positive positive s h = tt
 divisors-positive (divisible b k) s h = (h, tt)

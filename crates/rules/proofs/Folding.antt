@@ -35,7 +35,7 @@ any-value is-zero y z h = absurd h
 abbrev pub settles : Test → Sum → Bool
 settles t s = no-factors s || divisor-one t
 
-fold-literal-ind : (Q : Rule → Type 0) (t : Test) (s : Sum)
+pub fold-literal-ind : (Q : Rule → Type 0) (t : Test) (s : Sum)
     → (T (settles t s) → Q (Constant (passes t (factor 0 s)))) → (T (not (settles t s)) → Q (Literal t s))
     → Q (fold-literal t s)
 unfolding fold-literal

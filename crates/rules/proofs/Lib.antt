@@ -8,6 +8,7 @@ pub mod NormalForm
 pub mod OverLiterals
 pub mod CommonFactor
 pub mod Disjunction
+pub mod DisjunctNumbers
 pub mod Shapes
 pub mod Freedom
 pub mod Soundness
@@ -18,3 +19,6 @@ pub mod Decoding
 pub mod Bytes
 pub mod Outcomes
 pub mod Trees
+pub mod StepShapes
+pub mod Weights
+pub mod Disjuncts

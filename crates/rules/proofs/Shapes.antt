@@ -29,7 +29,7 @@ use Rattle.rules.proofs.Encoding.{divisor-range}
 use Rattle.rules.proofs.Folding.{ByParts}
 use Rattle.rules.proofs.NormalForm.{x-not-negative-ind}
 use Rattle.rules.proofs.OverLiterals.{normal-both, each-imp, each-normal, map-normal, gathered-all}
-use Rattle.rules.proofs.CommonFactor.{common-factor-pos, Scalable, all-scalable, multiplies}
+use Rattle.rules.proofs.CommonFactor.{common-factor-pos, SizeDivides, Scalable, all-scalable, multiplies}
 
 -- ---- conditions on literals go by parts
 
@@ -92,14 +92,14 @@ fits-formed (Bind q v a) h n = (h .0, fits-formed a (h .1) n)
 abbrev pub Seven : Sum → Type 0
 Seven s = length s ≡ 7
 
-seven-negate : (s : Sum) → Seven s → Seven (negate s)
+pub seven-negate : (s : Sum) → Seven s → Seven (negate s)
 unfolding negate
 seven-negate s e = length-scale (negsuc 0) s ∙ e
 
-seven-add : (s t : Sum) → Seven s → Seven t → Seven (add s t)
+pub seven-add : (s t : Sum) → Seven s → Seven t → Seven (add s t)
 seven-add s t e f = length-add s t (e ∙ sym f) ∙ f
 
-seven-put : (v : ℕ) (a : ℤ) (s : Sum) → v < 7 → Seven s → Seven (put v a s)
+pub seven-put : (v : ℕ) (a : ℤ) (s : Sum) → v < 7 → Seven s → Seven (put v a s)
 seven-put v a s h e = length-put v a s (subst (λ (n : ℕ). v < n) (sym e) h) ∙ e
 
 -- ---- step 1
@@ -134,12 +134,28 @@ abbrev pub Scaled : ℕ → Test → Sum → Type 0
 Scaled x t s = UnitFactor x t s × Shape t s
 
 module _ (D x : ℕ) (in-range : x < 7) (positive-D : 0 < D) where
+  -- a multiplied literal has the shape that it had
+  pub multiplied-shape : (t : Test) (s : Sum) → SizeDivides D x t s → Shape t s → Each Shape (scale-literal D x t s)
+  unfolding scale-literal Each
+  multiplied-shape t s sized (seven, divisor-pos) = (words, divisor t divisor-pos)
+    where
+      m : ℕ
+      m = multiplier D x s
+
+      words : Seven (put x (sign (factor x s)) (scale (pos m) s))
+      words = seven-put x (sign (factor x s)) (scale (pos m) s) in-range (length-scale (pos m) s ∙ seven)
+
+      divisor : (r : Test) → DivisorOf (λ k. 0 < k) r → DivisorOf (λ k. 0 < k) (times m r)
+      divisor positive d = tt
+      divisor (divisible b k) d = mul-pos (multiplies D x t s positive-D sized .positive) d
+      divisor is-zero d = tt
+
   abbrev ShapedScalable : Test → Sum → Type 0
   ShapedScalable t s = Scalable D x t s × Shape t s
 
   scaled-literal : (t : Test) (s : Sum) → ShapedScalable t s → Normal (Scaled x) (scale-literal D x t s)
-  unfolding scale-literal Normal
-  scaled-literal t s ((no-zero, sized), (seven, divisor-pos)) = (unit t no-zero, (words, divisor t divisor-pos))
+  unfolding scale-literal Normal Each
+  scaled-literal t s ((no-zero, sized), shape) = (unit t no-zero, multiplied-shape t s sized shape)
     where
       m : ℕ
       m = multiplier D x s
@@ -147,18 +163,10 @@ module _ (D x : ℕ) (in-range : x < 7) (positive-D : 0 < D) where
       e : ℤ
       e = sign (factor x s)
 
-      words : Seven (put x e (scale (pos m) s))
-      words = seven-put x e (scale (pos m) s) in-range (length-scale (pos m) s ∙ seven)
-
       unit : (r : Test) → NoZero r s → UnitFactor x (times m r) (put x e (scale (pos m) s))
       unit positive n = subst (λ f. natAbs f ≤ 1) (sym (factor-put x e (scale (pos m) s))) (sign-size (factor x s))
       unit (divisible b k) n = tt
       unit is-zero n = absurd n
-
-      divisor : (r : Test) → DivisorOf (λ k. 0 < k) r → DivisorOf (λ k. 0 < k) (times m r)
-      divisor positive d = tt
-      divisor (divisible b k) d = mul-pos (multiplies D x t s positive-D sized .positive) d
-      divisor is-zero d = tt
 
   scaled-body : (a : Rule) → Normal ShapedScalable a → Normal (Scaled x) (scaled D x a)
   unfolding scaled Normal setting
@@ -184,36 +192,40 @@ module _ (B : Sum → Type 0) where
       let rest : All B (without b l) = all-without b l (h .1) in
       cond-ind (same b c) (without b l) (c ∷ without b l) (All B) (λ t. rest) (λ t. (h .0, rest))
 
-  all-once : (l : List Sum) → All B l → All B (once l)
+  pub all-once : (l : List Sum) → All B l → All B (once l)
   unfolding All once
   all-once [] h = tt
   all-once (b ∷ l) h = (h .0, all-without b (once l) (all-once l (h .1)))
 
 module _ {A : Type 0} (Q : A → Type 0) where
-  all-for-each : (from n : ℕ) (f : ℕ → List A) → ((j : ℕ) → All Q (f j)) → All Q (for-each from n f)
+  pub all-for-each : (from n : ℕ) (f : ℕ → List A) → ((j : ℕ) → All Q (f j)) → All Q (for-each from n f)
   unfolding All for-each
   all-for-each from zero f h = tt
   all-for-each from (suc n) f h =
       all-append Q (f from) (for-each (suc from) n f) .1 (h from, all-for-each (suc from) n f h)
 
-any-of-parts : (Q : Rule → Type 0) → ByParts Q → (ds : List Rule) → All Q ds → Q (any-of ds)
+pub any-of-parts : (Q : Rule → Type 0) → ByParts Q → (ds : List Rule) → All Q ds → Q (any-of ds)
 unfolding All any-of
 any-of-parts Q by [] h = by .constant false
 any-of-parts Q by (a ∷ []) h = h .0
 any-of-parts Q by (a ∷ b ∷ l) h = by .join _ a (any-of (b ∷ l)) (h .0) (any-of-parts Q by (b ∷ l) (h .1))
 
+-- far to the left a literal becomes a truth value or stays
+pub far-literal-ind : (Q : Rule → Type 0) (x : ℕ) (t : Test) (s : Sum) → ((b : Bool) → Q (Constant b)) → Q (Literal t s)
+    → Q (far-literal x t s)
+unfolding far-literal
+far-literal-ind Q x positive s constant stays =
+    let otherwise : Rule = cond (eqZ (factor x s) (negsuc 0)) True (Literal positive s) in
+    cond-ind (eqZ (factor x s) (pos 1)) False otherwise Q (λ c. constant false)
+    (λ c. cond-ind (eqZ (factor x s) (negsuc 0)) True (Literal positive s) Q (λ i. constant true) (λ i. stays))
+far-literal-ind Q x (divisible b k) s constant stays = stays
+far-literal-ind Q x is-zero s constant stays = stays
+
 -- the far-left body asks of its literals what the body does
 pub far-normal : (x : ℕ) (Q : Test → Sum → Type 0) (a : Rule) → Normal Q a → Normal Q (far-left x a)
 unfolding far-left
-far-normal x Q = map-normal (far-literal x) Q Q each
-  where
-    each : (t : Test) (s : Sum) → Q t s → Normal Q (far-literal x t s)
-    each positive s h = unfold far-literal Normal in
-        let otherwise : Rule = cond (eqZ (factor x s) (negsuc 0)) True (Literal positive s) in
-        cond-ind (eqZ (factor x s) (pos 1)) False otherwise (Normal Q) (λ c. tt)
-        (λ c. cond-ind (eqZ (factor x s) (negsuc 0)) True (Literal positive s) (Normal Q) (λ i. tt) (λ i. h))
-    each (divisible b k) s h = unfold far-literal Normal in h
-    each is-zero s h = unfold far-literal Normal in h
+far-normal x Q = map-normal (far-literal x) Q Q
+    (λ t s h. unfold Normal in far-literal-ind (Normal Q) x t s (λ b. tt) h)
 
 -- the disjuncts of one j: the far-left body at j, and the body at b + j for each bound b
 abbrev pub fars : ℕ → Rule → ℕ → List Rule
@@ -233,16 +245,16 @@ module _ (x : ℕ) (Q : Test → Sum → Type 0) (B : Sum → Type 0) (R : Test 
   unfolding body-at
   body-normal u b = map-normal (λ t s. Literal t (sum-at x u s)) Q R (λ t s h. unfold Normal in by .literal t s u h b)
 
+  pub bound-all : (t : Test) (s : Sum) → Q t s → All B (bound-of x t s)
+  unfolding bound-of All
+  bound-all positive s h = cond-ind (eqZ (factor x s) (pos 1)) (negate (put x (pos 0) s) ∷ []) [] (All B)
+      (λ c. (by .bound s h, tt)) (λ c. tt)
+  bound-all (divisible b k) s h = tt
+  bound-all is-zero s h = tt
+
   bounds-all : (a : Rule) → Normal Q a → All B (bounds x a)
   unfolding bounds
-  bounds-all a n = all-once B (gather (bound-of x) a) (gathered-all (bound-of x) Q B each a n)
-    where
-      each : (t : Test) (s : Sum) → Q t s → All B (bound-of x t s)
-      each positive s h = unfold bound-of All in
-          cond-ind (eqZ (factor x s) (pos 1)) (negate (put x (pos 0) s) ∷ []) [] (All B)
-          (λ c. (by .bound s h, tt)) (λ c. tt)
-      each (divisible b k) s h = unfold bound-of All in tt
-      each is-zero s h = unfold bound-of All in tt
+  bounds-all a n = all-once B (gather (bound-of x) a) (gathered-all (bound-of x) Q B bound-all a n)
 
   pub disjunction-normal : (P : ℕ) (a : Rule) → Normal Q a → Normal R (disjunction P x a)
   unfolding disjunction disjuncts

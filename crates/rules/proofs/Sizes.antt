@@ -73,6 +73,25 @@ length-body i (literal-node is-zero s) = omega arith
 length-body i (bind-node for-some v) = refl
 length-body i (bind-node for-all v) = refl
 
+-- a node has a word, and so has a rule
+pub words-pos : (d : Node) → 1 ≤ words d
+unfolding words before-sum
+words-pos (constant-node b) = omega arith
+words-pos (join-node j right) = omega arith
+words-pos not-node = omega arith
+words-pos (literal-node positive s) = omega arith
+words-pos (literal-node (divisible b k) s) = omega arith
+words-pos (literal-node is-zero s) = omega arith
+words-pos (bind-node q v) = omega arith
+
+pub weight-pos : (r : Rule) → 1 ≤ weight r
+unfolding weight words
+weight-pos (Constant b) = omega arith
+weight-pos (Join j a b) = omega arith
+weight-pos (Not a) = omega arith
+weight-pos (Literal t s) = words-pos (literal-node t s)
+weight-pos (Bind q v a) = omega arith
+
 -- the words of the bodies of nodes
 unfoldable pub total : List Node → ℕ
 unfolding words

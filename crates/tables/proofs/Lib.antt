@@ -3,11 +3,13 @@ pub mod SignedBits
 pub mod SettingLaws
 pub mod Standings
 pub mod Inversion
+pub mod SideLaws
 pub mod Fields
 pub mod KindLaws
 pub mod TreeLaws
 pub mod TreeSteps
 pub mod WalkLaws
+pub mod Parts
 pub mod CheckLaws
 pub mod VerdictLaws
 pub mod Passed

@@ -14,7 +14,8 @@ use Rattle.whole.proofs.Difference.{zz, z1}
 use Rattle.rules.specs.Rule.{Junction, and, or, for-some, for-all, positive, divisible, is-zero}
 use Rattle.rules.specs.Table.{Node, constant-node, join-node, not-node, literal-node, bind-node, body, nodes, bodies}
 use Rattle.rules.specs.Calls.{signed}
-use Rattle.rules.proofs.Sizes.{words, total, length-body, length-bodies, length-nodes, total-nodes, weight-is, before-sum}
+use Rattle.rules.proofs.Sizes.{words, total, before-sum, words-pos, weight-is}
+use Rattle.rules.proofs.Sizes.{length-body, length-bodies, length-nodes, total-nodes}
 use Rattle.rules.proofs.Encoding.{Good, AllGood, good-nodes}
 use Rattle.rules.proofs.Trees.{arity}
 use Rattle.tables.specs.Reads.{widths, kind-of}
@@ -38,29 +39,28 @@ use Rattle.tables.proofs.Standings.{bodies-append}
 -- ---- the kind of a node
 
 -- what the kind says: it is the first word, and gives the number of words and of children
-record Kinds (d : Node) : Type 0 where
-  first : (i : ℕ) → getD (body i d) 0 (pos 0) ≡ pos (kind-of d)
-  wide : getD widths (kind-of d) 0 ≡ words d
-  children : getD arities (kind-of d) 0 ≡ arity d
-  some : 0 < words d
+pub record Kinds (d : Node) : Type 0 where
+  pub first : (i : ℕ) → getD (body i d) 0 (pos 0) ≡ pos (kind-of d)
+  pub wide : getD widths (kind-of d) 0 ≡ words d
+  pub children : getD arities (kind-of d) 0 ≡ arity d
 
-kinds : (d : Node) → Good d → Kinds d
+pub kinds : (d : Node) → Good d → Kinds d
 unfolding kind-of body words arity before-sum Good
-kinds (constant-node false) g = record { first = λ i. refl; wide = refl; children = refl; some = omega arith }
-kinds (constant-node true) g = record { first = λ i. refl; wide = refl; children = refl; some = omega arith }
-kinds (join-node and right) g = record { first = λ i. refl; wide = refl; children = refl; some = omega arith }
-kinds (join-node or right) g = record { first = λ i. refl; wide = refl; children = refl; some = omega arith }
-kinds not-node g = record { first = λ i. refl; wide = refl; children = refl; some = omega arith }
+kinds (constant-node false) g = record { first = λ i. refl; wide = refl; children = refl }
+kinds (constant-node true) g = record { first = λ i. refl; wide = refl; children = refl }
+kinds (join-node and right) g = record { first = λ i. refl; wide = refl; children = refl }
+kinds (join-node or right) g = record { first = λ i. refl; wide = refl; children = refl }
+kinds not-node g = record { first = λ i. refl; wide = refl; children = refl }
 kinds (literal-node positive s) g =
-    record { first = λ i. refl; wide = omega (arith, g .0); children = refl; some = omega arith }
+    record { first = λ i. refl; wide = omega (arith, g .0); children = refl }
 kinds (literal-node (divisible true k) s) g =
-    record { first = λ i. refl; wide = omega (arith, g .0); children = refl; some = omega arith }
+    record { first = λ i. refl; wide = omega (arith, g .0); children = refl }
 kinds (literal-node (divisible false k) s) g =
-    record { first = λ i. refl; wide = omega (arith, g .0); children = refl; some = omega arith }
+    record { first = λ i. refl; wide = omega (arith, g .0); children = refl }
 kinds (literal-node is-zero s) g =
-    record { first = λ i. refl; wide = omega (arith, g .0); children = refl; some = omega arith }
-kinds (bind-node for-some v) g = record { first = λ i. refl; wide = refl; children = refl; some = omega arith }
-kinds (bind-node for-all v) g = record { first = λ i. refl; wide = refl; children = refl; some = omega arith }
+    record { first = λ i. refl; wide = omega (arith, g .0); children = refl }
+kinds (bind-node for-some v) g = record { first = λ i. refl; wide = refl; children = refl }
+kinds (bind-node for-all v) g = record { first = λ i. refl; wide = refl; children = refl }
 
 -- ---- the root of some bodies whose first word is k
 
@@ -83,7 +83,7 @@ rooted bs n left k (d ∷ ds) e h b l g =
     let c : Kinds d = kinds d (g .0) in
     let start : getD bs 0 (pos 0) ≡ pos (kind-of d) =
     ap (λ (ws : List ℤ). getD ws 0 (pos 0)) b
-    ∙ List·getD-append (body n d) (bodies (n + 1) ds) (pos 0) 0 (omega (arith, length-body n d, c .some)) ∙ c .first n in
+    ∙ List·getD-append (body n d) (bodies (n + 1) ds) (pos 0) 0 (omega (arith, length-body n d, words-pos d)) ∙ c .first n in
     let same : k ≡ kind-of d = number-of k (kind-of d) (sym e ∙ start) in
     record {
       root = d;
@@ -294,7 +294,7 @@ listed-some bs n left L h = go (L .nodes) (L .bodies) (L .long) (L .good)
     go : (ds : List Node) → bs ≡ bodies n ds → length ds ≡ left → AllGood ds → 0 < length bs
     go [] b l g = absurd (omega arith)
     go (d ∷ ds) b l g = unfold bodies AllGood in
-        omega (arith, ap length b, length-append (body n d) (bodies (n + 1) ds), length-body n d, kinds d (g .0) .some)
+        omega (arith, ap length b, length-append (body n d) (bodies (n + 1) ds), length-body n d, words-pos d)
 
 -- a tree that starts some bodies is no longer than they are
 pub tree-fits : (bs : List ℤ) (n left m q : ℕ) → Listed bs n left → TreeAt bs n left (Ends m q)

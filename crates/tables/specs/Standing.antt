@@ -2,11 +2,14 @@
 -- Assumes nothing.
 use mathlib.Core.Path.{_≡_}
 use mathlib.Core.List.{List, _++_}
-use Prim.Native.Nat.{ℕ}
+use Prim.Native.Nat.{ℕ, _+_, _*_, _≤_}
 use lib.IntN.{ℤ}
-use Rattle.rules.specs.Rule.{Rule}
-use Rattle.rules.specs.Table.{Node, nodes, starts, bodies}
+use lib.ListN.{length}
+use Rattle.rules.specs.Rule.{Junction, Rule, Join}
+use Rattle.rules.specs.Table.{Node, most-words, count, nodes, starts, bodies, encode}
 use Rattle.rules.specs.Laws.{WellFormed}
+use Rattle.rules.proofs.Sizes.{weight}
+use Rattle.tables.specs.declared.sides.Side.{Side}
 
 -- the entries es begin with those of the nodes ds, and the bodies bs with theirs, where the first node has number n and
 -- its body the place p
@@ -24,3 +27,34 @@ pub record Standing (es bs : List ℤ) (n p : ℕ) : Type 0 where
   pub rule : Rule
   pub stands : Stands es bs n p rule
   pub formed : WellFormed rule
+
+-- no number and no place of these parts is over what a table has
+pub record Few (es bs : List ℤ) (n p : ℕ) : Type 0 where
+  pub few-nodes : n + length es ≤ most-words
+  pub few-words : p + length bs ≤ most-words
+
+-- ---- the right side of an and or or
+
+pub record StandingJoin (es bs : List ℤ) (n p : ℕ) : Type 0 where
+  pub joint : Junction
+  pub left-side : Rule
+  pub right-side : Rule
+  pub stands : Stands es bs n p (Join joint left-side right-side)
+
+-- where the right side is found whose join is node n at place p: its number, its place, and how many bytes behind those
+-- of the join its entry and its body start
+pub record RightOf (n p : ℕ) (left : Rule) (s : Side) : Type 0 where
+  pub number-is : s .node ≡ n + (1 + count left)
+  pub place-is : s .place ≡ p + (2 + weight left)
+  pub entries-are : s .entries ≡ (1 + count left) * 4
+  pub bodies-are : s .bodies ≡ (2 + weight left) * 4
+
+-- ---- a rule's bodies, and its table, at the start of some words
+
+pub record Bodied (bs : List ℤ) (n : ℕ) (r : Rule) : Type 0 where
+  pub after : List ℤ
+  pub begins : bs ≡ bodies n (nodes r) ++ after
+
+pub record TableAt (ws : List ℤ) (r : Rule) : Type 0 where
+  pub after : List ℤ
+  pub begins : ws ≡ encode r ++ after

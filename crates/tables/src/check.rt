@@ -58,7 +58,7 @@ fn nodes(t: &[u8], n: usize) -> Checked
 // By kind, a digit of 4 bits each, that of kind 0 lowest: how many children a node has.
 const CHILDREN: usize = 0x01100012200;
 
-fn children(kind: usize) -> usize
+pub fn children(kind: usize) -> usize
     ensures { λ r. ⌜ r ≡ getD arities kind 0 ⌝ }
 {
     if kind < 11 {

@@ -2,4 +2,5 @@
 pub mod check;
 pub mod reading;
 pub mod settings;
+pub mod sides;
 pub mod words;

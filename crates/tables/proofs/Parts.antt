@@ -1,0 +1,95 @@
+-- A rule that stands in two parts of a table's bytes, by the kind that its first word is: its shape, where its own parts
+-- start, and that they are there.
+-- Assumes nothing.
+use mathlib.Core.Path.{_≡_, sym, _∙_, ap, subst}
+use mathlib.Core.Bool.{Bool}
+use mathlib.Core.List.{List}
+use Prim.Native.Nat.{ℕ, _+_, _-_, _*_, _<_, _≤_}
+use native.Mathlib.Omega.{arith}
+use borrow.Rule.Slice.PartAt.{part-to-end}
+use lib.Dec.{eqb}
+use lib.IntN.{ℤ, pos}
+use lib.ListN.{length, getD, take, drop, length-drop}
+use Rattle.rules.specs.Sum.{Sum}
+use Rattle.rules.specs.Rule.{Junction, Quantifier, Test, Rule, Constant, Join, Not, Literal, Bind}
+use Rattle.rules.specs.Table.{count}
+use Rattle.rules.specs.Calls.{signed, words}
+use Rattle.rules.proofs.Sizes.{weight, count-pos, weight-pos}
+use Rattle.tables.specs.Standing.{Stands, Few}
+use Rattle.tables.proofs.WordLaws.{words-from, words-length}
+use Rattle.tables.proofs.WalkLaws.{part}
+use Rattle.tables.proofs.Standings.{inside-entries, inside-bodies}
+use Rattle.tables.proofs.Inversion.{join-kind, test-kind, bind-kind, BodyAt, Shape, shape}
+use Rattle.tables.proofs.Inversion.{constant, join, negation, literal, bind}
+
+-- ---- parts
+
+pub part-words : (l : List ℕ) (i : ℕ) → length (part l i) ≡ length (words l) - i
+part-words l i = ap length (words-from l i) ∙ length-drop i (words l)
+
+-- in bytes a part that leaves a word out is shorter: what falls at a call
+pub part-shorter : (l : List ℕ) (i : ℕ) → 0 < i → 0 < length (words l)
+    → length (take (length l - i * 4) (drop (i * 4) l)) < length l
+part-shorter l i h w = omega (arith, ap length (part-to-end l (i * 4)), length-drop (i * 4) l, words-length l)
+
+pub few-part : (le lb : List ℕ) {n p : ℕ} (i j : ℕ) → i ≤ length (words le) → j ≤ length (words lb)
+    → Few (words le) (words lb) n p → Few (part le i) (part lb j) (n + i) (p + j)
+few-part le lb i j h g few = record {
+  few-nodes = omega (arith, few .few-nodes, part-words le i);
+  few-words = omega (arith, few .few-words, part-words lb j);
+}
+
+stands-part : (le lb : List ℕ) (i j n p : ℕ) (a : Rule)
+    → Stands (drop i (words le)) (drop j (words lb)) n p a → Stands (part le i) (part lb j) n p a
+stands-part le lb i j n p a s =
+    subst (λ (es : List ℤ). Stands es (part lb j) n p a) (sym (words-from le i))
+    (subst (λ (bs : List ℤ). Stands (drop i (words le)) bs n p a) (sym (words-from lb j)) s)
+
+-- ---- the shape
+
+pub data Parts (le lb : List ℕ) (n p k : ℕ) : Rule → Type 0 where
+  a-constant : (b : Bool) → k < 2 → eqb k 1 ≡ b → Parts le lb n p k (Constant b)
+  a-join : (j : Junction) (a b : Rule) → k ≡ join-kind j
+      → Stands (part le 1) (part lb 2) (n + 1) (p + 2) a
+      → Stands (part le (1 + count a)) (part lb (2 + weight a)) (n + (1 + count a)) (p + (2 + weight a)) b
+      → Parts le lb n p k (Join j a b)
+  a-not : (a : Rule) → k ≡ 4 → Stands (part le 1) (part lb 1) (n + 1) (p + 1) a → Parts le lb n p k (Not a)
+  a-literal : (t : Test) (s : Sum) → k ≡ test-kind t → BodyAt (words lb) n t s → Parts le lb n p k (Literal t s)
+  a-bind : (q : Quantifier) (v : ℕ) (a : Rule) → k ≡ bind-kind q → getD (words lb) 1 (pos 0) ≡ pos v
+      → Stands (part le 1) (part lb 2) (n + 1) (p + 2) a → Parts le lb n p k (Bind q v a)
+
+pub parts : {le lb : List ℕ} {n p : ℕ} (k : ℕ) → getD (words lb) 0 (pos 0) ≡ signed k → (a : Rule)
+    → Stands (words le) (words lb) n p a → Parts le lb n p k a
+parts {le} {lb} {n} {p} k first a s = go a (shape k first a s)
+  where
+    go : (a : Rule) → Shape (words le) (words lb) n p k a → Parts le lb n p k a
+    go a (constant b l e) = a-constant b l e
+    go a (join j b c i x) =
+        a-join j b c i (stands-part le lb 1 2 (n + 1) (p + 2) b (x .left-at))
+        (stands-part le lb (1 + count b) (2 + weight b) (n + (1 + count b)) (p + (2 + weight b)) c (x .right-at))
+    go a (negation b i x) = a-not b i (stands-part le lb 1 1 (n + 1) (p + 1) b x)
+    go a (literal t u i x) = a-literal t u i x
+    go a (bind q v b i w x) = a-bind q v b i w (stands-part le lb 1 2 (n + 1) (p + 2) b x)
+
+-- ---- what is there, in words
+
+module _ {es bs : List ℤ} {n p : ℕ} where
+  -- the root's entry and its kind
+  pub root-there : (a : Rule) → Stands es bs n p a → (1 ≤ length es) × (1 ≤ length bs)
+  root-there a s = (omega (arith, inside-entries a s, count-pos a), omega (arith, inside-bodies a s, weight-pos a))
+
+  -- the two words of a join and of a quantifier
+  pub bind-there : (q : Quantifier) (v : ℕ) (a : Rule) → Stands es bs n p (Bind q v a) → 2 ≤ length bs
+  unfolding weight
+  bind-there q v a s = omega (arith, inside-bodies (Bind q v a) s)
+
+  pub join-there : (j : Junction) (a b : Rule) → Stands es bs n p (Join j a b) → 2 ≤ length bs
+  unfolding weight
+  join-there j a b s = omega (arith, inside-bodies (Join j a b) s)
+
+  -- the right side's entry, and the words before it
+  pub right-there : (j : Junction) (a b : Rule) → Stands es bs n p (Join j a b)
+      → (1 + count a < length es) × (2 + weight a ≤ length bs)
+  unfolding count weight
+  right-there j a b s =
+      (omega (arith, inside-entries (Join j a b) s, count-pos b), omega (arith, inside-bodies (Join j a b) s))
