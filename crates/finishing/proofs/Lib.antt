@@ -1,0 +1,3 @@
+pub mod CopyLaws
+pub mod NodeLaws
+pub mod FinishLaws
