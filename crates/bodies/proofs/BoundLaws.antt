@@ -1,0 +1,315 @@
+-- The bounds that are kept, by the places of their literals: when two are the same, and what one more makes of them.
+-- Assumes nothing.
+use mathlib.Core.Path.{_≡_, refl, sym, _∙_, ap, subst}
+use mathlib.Core.Bool.{Bool, true, false, cond}
+use mathlib.Core.List.{List, [], _∷_, _++_, append-nil}
+use Prim.Native.Nat.{ℕ, _+_, _-_, _<_, _≤_}
+use native.Mathlib.Decide.{ℕ-discrete}
+use native.Mathlib.Omega.{arith}
+use lib.Dec.{T, eqb, eqb→eq, eqb-refl}
+use lib.IntN.{ℤ, pos, negsuc, _*ℤ_}
+use lib.ListN.{length, getD, drop, set, length-append, length-set, List·getD-append}
+use lib.Seq.{ext-getD, getD-set-same, getD-set-other, getD-append-seam}
+use Rattle.whole.specs.Integers.{eqZ}
+use Rattle.whole.proofs.Difference.{zz, z2}
+use Rattle.whole.proofs.Tests.{cond-ind, eqZ→eq}
+use Rattle.rules.specs.Sum.{Sum, factor, negate, put}
+use Rattle.rules.specs.Rule.{Test, positive, divisible, is-zero, Rule, Whether}
+use Rattle.rules.specs.Steps.{bound-of, once, bounds}
+use Rattle.rules.specs.Table.{literal-node}
+use Rattle.rules.specs.Literals.{gather}
+use Rattle.rules.specs.Laws.{InTable}
+use Rattle.rules.specs.Calls.{signed}
+use Rattle.rules.proofs.Sizes.{before-sum, words}
+use Rattle.rules.proofs.Sums.{factor-put-other, factor-scale}
+use Rattle.tables.proofs.WordLaws.{number-of, natural-unique}
+use Rattle.tables.proofs.Inversion.{BodyAt}
+use Rattle.bodies.specs.Body.{SomeBody, BoundAt, BoundsAt, RoomForBounds}
+use Rattle.bodies.specs.Cursor.{literals-of, across, LiteralAt}
+use Rattle.bodies.specs.Bounds.{Alike, GivesBound, SomeKept}
+use Rattle.bodies.proofs.LiteralWords.{kind-word, sum-word}
+use Rattle.bodies.proofs.CursorLaws.{node-inside, across-append, gather-across}
+use Rattle.bodies.proofs.ScanLaws.{Passed, Scanned, here}
+use Rattle.bodies.proofs.OnceLaws.{In, at-in, in-at, once-there, once-new, length-once}
+
+-- ---- which literal gives a bound
+
+module _ {bs : List ℤ} {p end : ℕ} {s : Sum} {ls : List (Test × Sum)}
+    (k : ℕ) (kind : getD bs p (pos 0) ≡ signed k) where
+  no-bound : (t : Test) → LiteralAt bs p end t s ls → (x : ℕ) → ¬ (k ≡ 5) → bound-of x t s ≡ []
+  unfolding bound-of
+  no-bound positive l x f = absurd (f (number-of k 5 (sym kind ∙ kind-word bs p positive (l .stands))))
+  no-bound (divisible b d) l x f = refl
+  no-bound is-zero l x f = refl
+
+  pub gives-none : (t : Test) → LiteralAt bs p end t s ls → (x : ℕ) → ¬ (k ≡ 5) → GivesBound x t s false
+  unfolding GivesBound
+  gives-none t l x f = no-bound t l x f
+
+  five-positive : (t : Test) → LiteralAt bs p end t s ls → k ≡ 5 → t ≡ positive
+  five-positive positive l e = refl
+  five-positive (divisible true d) l e =
+      absurd (omega (arith, e, number-of k 6 (sym kind ∙ kind-word bs p (divisible true d) (l .stands))))
+  five-positive (divisible false d) l e =
+      absurd (omega (arith, e, number-of k 7 (sym kind ∙ kind-word bs p (divisible false d) (l .stands))))
+  five-positive is-zero l e = absurd (omega (arith, e, number-of k 10 (sym kind ∙ kind-word bs p is-zero (l .stands))))
+
+factor-not-one : (x : ℕ) (t : Test) (s : Sum) → ¬ (factor x s ≡ pos 1) → bound-of x t s ≡ []
+unfolding bound-of
+factor-not-one x positive s f =
+    cond-ind (eqZ (factor x s) (pos 1)) (negate (put x (pos 0) s) ∷ []) [] (λ (m : List Sum). m ≡ [])
+    (λ t. absurd (f (eqZ→eq (factor x s) (pos 1) t))) (λ t. refl)
+factor-not-one x (divisible b k) s f = refl
+factor-not-one x is-zero s f = refl
+
+module _ {bs : List ℤ} {p end : ℕ} {t : Test} {s : Sum} {ls : List (Test × Sum)} (l : LiteralAt bs p end t s ls) (k : ℕ)
+    (kind : getD bs p (pos 0) ≡ signed k) (five : k ≡ 5) (x : ℕ) (within : x ≤ 6)
+    (u : ℕ) (word : getD bs (p + 1 + x) (pos 0) ≡ signed u) where
+  factor-word : factor x s ≡ signed u
+  unfolding before-sum
+  factor-word =
+      let at = subst (λ (t : Test). BodyAt (drop p bs) (l .node) t s) (five-positive k kind t l five) (l .stands) in
+      sym (sum-word bs p positive at x (omega (arith, within, l .formed .0))) ∙ word
+
+  gives-one : u ≡ 1 → GivesBound x t s true
+  unfolding GivesBound
+  gives-one e = (five-positive k kind t l five, factor-word ∙ ap signed e)
+
+  gives-other : ¬ (u ≡ 1) → GivesBound x t s false
+  unfolding GivesBound
+  gives-other f = factor-not-one x t s (λ e. f (number-of u 1 (sym factor-word ∙ e)))
+
+  pub gives-factor : GivesBound x t s (eqb u 1)
+  gives-factor = by (eqb u 1) refl
+    where
+      by : (b : Bool) → eqb u 1 ≡ b → GivesBound x t s b
+      by true e = gives-one (eqb→eq u 1 (subst T (sym e) tt))
+      by false e = gives-other (λ i. subst T e (subst (λ (m : ℕ). T (eqb u m)) i (eqb-refl u)))
+
+-- ---- two places that give the same bound
+
+module _ {bs : List ℤ} {x p : ℕ} {u : Sum} (b : BoundAt bs x p u) where
+  bound-word : (j : ℕ) → j < 7 → getD bs (p + (1 + j)) (pos 0) ≡ getD (b .sum) j (pos 0)
+  unfolding before-sum
+  bound-word j h =
+      let place : p + (1 + j) ≡ p + 1 + j = omega arith in
+      ap (λ (m : ℕ). getD bs m (pos 0)) place
+      ∙ sum-word bs p positive (b .stands) j (omega (arith, b .formed .0))
+
+  -- every word of the bound but that of x, whose factor is 1, is one of the literal's
+  minus-word : (j : ℕ) → ¬ (j ≡ x) → factor j u ≡ negsuc 0 *ℤ factor j (b .sum)
+  unfolding negate
+  minus-word j f =
+      ap (factor j) (b .bound-is) ∙ factor-scale j (negsuc 0) (put x (pos 0) (b .sum))
+      ∙ ap (λ z. negsuc 0 *ℤ z) (factor-put-other j x (pos 0) (b .sum) f)
+
+  pub bound-there : p + 8 ≤ length bs
+  unfolding words before-sum
+  bound-there =
+      let at = b .stands in
+      let inside = node-inside bs p (literal-node positive (b .sum)) (b .node) (at .after) (at .begins) in
+      omega (arith, inside, b .formed .0)
+
+minus-same : (a b : ℤ) → negsuc 0 *ℤ a ≡ negsuc 0 *ℤ b → a ≡ b
+minus-same = z2 _ (simp zz (omega arith))
+
+module _ {bs : List ℤ} {x p q : ℕ} {u v : Sum} (b : BoundAt bs x p u) (c : BoundAt bs x q v) where
+  as-long : length (b .sum) ≡ length (c .sum)
+  as-long = b .formed .0 ∙ sym (c .formed .0)
+
+  pub alike-equal : Alike bs p q → u ≡ v
+  alike-equal all =
+      let equal : b .sum ≡ c .sum = ext-getD (pos 0) (b .sum) (c .sum) as-long each in
+      b .bound-is ∙ ap (λ (s : Sum). negate (put x (pos 0) s)) equal ∙ sym (c .bound-is)
+    where
+      each : (j : ℕ) → j < length (b .sum) → getD (b .sum) j (pos 0) ≡ getD (c .sum) j (pos 0)
+      each j h =
+          let small : j < 7 = omega (arith, h, b .formed .0) in
+          sym (bound-word b j small) ∙ all (1 + j) (omega arith) (omega (arith, small)) ∙ bound-word c j small
+
+  pub equal-alike : u ≡ v → Alike bs p q
+  equal-alike e i h k =
+      let (j, is) : (j : ℕ) × (i ≡ 1 + j) = (i - 1, omega (arith, h)) in
+      let small : j < 7 = omega (arith, is, k) in
+      ap (λ (m : ℕ). getD bs (p + m) (pos 0)) is ∙ bound-word b j small ∙ word j (ℕ-discrete j x)
+      ∙ sym (bound-word c j small) ∙ sym (ap (λ (m : ℕ). getD bs (q + m) (pos 0)) is)
+    where
+      word : (j : ℕ) → Dec (j ≡ x) → factor j (b .sum) ≡ factor j (c .sum)
+      word j (yes i) =
+          ap (λ (v : ℕ). factor v (b .sum)) i ∙ b .lower ∙ sym (c .lower) ∙ sym (ap (λ (v : ℕ). factor v (c .sum)) i)
+      word j (no f) =
+          minus-same (factor j (b .sum)) (factor j (c .sum))
+          (sym (minus-word b j f) ∙ ap (factor j) e ∙ minus-word c j f)
+
+-- ---- the search among those that are kept
+
+-- the words behind places p and q are the same, up to the n-th
+abbrev pub AlikeTo : List ℤ → ℕ → ℕ → ℕ → Type 0
+AlikeTo bs p q n = (i : ℕ) → 1 ≤ i → i < n → getD bs (p + i) (pos 0) ≡ getD bs (q + i) (pos 0)
+
+module _ (bs : List ℤ) (p q n : ℕ) (u v : ℕ) (e : getD bs (p + n) (pos 0) ≡ signed u)
+    (f : getD bs (q + n) (pos 0) ≡ signed v) where
+  pub alike-more : AlikeTo bs p q n → u ≡ v → AlikeTo bs p q (n + 1)
+  alike-more all same i h k = by (ℕ-discrete i n)
+    where
+      by : Dec (i ≡ n) → getD bs (p + i) (pos 0) ≡ getD bs (q + i) (pos 0)
+      by (yes j) =
+          ap (λ (m : ℕ). getD bs (p + m) (pos 0)) j ∙ e ∙ ap signed same ∙ sym f
+          ∙ sym (ap (λ (m : ℕ). getD bs (q + m) (pos 0)) j)
+      by (no j) = all i h (omega (arith, k, j))
+
+  pub not-alike : u < 4294967296 → v < 4294967296 → ¬ (u ≡ v) → 1 ≤ n → n < 8 → ¬ Alike bs p q
+  not-alike h k other l m all = other (natural-unique u v h k (sym e ∙ all n l m ∙ f))
+
+-- what a test that answers r has said
+pub said : {r : Bool} (A : Type 0) → r ≡ true → Whether r A → A
+said A e w = subst (λ (b : Bool). Whether b A) e w
+
+pub denied : {r : Bool} (A : Type 0) → r ≡ false → Whether r A → ¬ A
+denied A e w = subst (λ (b : Bool). Whether b A) e w
+
+pub none-more : (P : ℕ → Type 0) (n : ℕ) → ((i : ℕ) → i < n → ¬ P i) → ¬ P n → (i : ℕ) → i < n + 1 → ¬ P i
+none-more P n none this i h q = by (ℕ-discrete i n)
+  where
+    by : Dec (i ≡ n) → ⊥
+    by (yes e) = this (subst P e q)
+    by (no f) = none i (omega (arith, h, f)) q
+
+module _ {bs : List ℤ} {x : ℕ} {places : List ℕ} {k p : ℕ} {us : List Sum} {u : Sum}
+    (h : BoundsAt bs x places k us) (b : BoundAt bs x p u) where
+  found-in : (i : ℕ) × (i < k) × Alike bs (getD places i 0) p → In u us
+  found-in (i, l, all) = at-in u us i (omega (arith, l, h .as-many)) (alike-equal (h .each i l) b all)
+
+  not-in : ¬ ((i : ℕ) × (i < k) × Alike bs (getD places i 0) p) → ¬ In u us
+  not-in f n =
+      let (i, l, e) = in-at u us n in
+      let less : i < k = omega (arith, l, h .as-many) in
+      f (i, less, equal-alike (h .each i less) b e)
+
+  held-more : k < length places → BoundsAt bs x (set places k p) (k + 1) (us ++ (u ∷ []))
+  held-more room = record {
+    as-many = omega (arith, h .as-many, length-append us (u ∷ []));
+    held = omega (arith, room, length-set places k p);
+    each = λ i l. by i l (ℕ-discrete i k);
+  }
+    where
+      by : (i : ℕ) → i < k + 1 → Dec (i ≡ k) → BoundAt bs x (getD (set places k p) i 0) (getD (us ++ (u ∷ [])) i [])
+      by i l (yes e) =
+          subst (λ (m : ℕ). BoundAt bs x (getD (set places k p) m 0) (getD (us ++ (u ∷ [])) m [])) (sym e)
+          (subst (λ (v : Sum). BoundAt bs x (getD (set places k p) k 0) v)
+          (sym (ap (λ (m : ℕ). getD (us ++ (u ∷ [])) m []) (h .as-many) ∙ getD-append-seam us u [] []))
+          (subst (λ (q : ℕ). BoundAt bs x q u) (sym (getD-set-same places k p 0 room)) b))
+      by i l (no f) =
+          let less : i < k = omega (arith, l, f) in
+          subst (λ (v : Sum). BoundAt bs x (getD (set places k p) i 0) v)
+          (sym (List·getD-append us (u ∷ []) [] i (omega (arith, less, h .as-many))))
+          (subst (λ (q : ℕ). BoundAt bs x q (getD us i [])) (sym (getD-set-other places k i p 0 f)) (h .each i less))
+
+-- ---- keeping a bound
+
+module _ (x : ℕ) (t : Test) (s : Sum) (g : GivesBound x t s true) where
+  the-bound : bound-of x t s ≡ negate (put x (pos 0) s) ∷ []
+  unfolding GivesBound bound-of
+  the-bound =
+      ap (λ (t : Test). bound-of x t s) (g .0)
+      ∙ ap (λ z. cond (eqZ z (pos 1)) (negate (put x (pos 0) s) ∷ []) []) (g .1)
+
+  literal-bound : {bs : List ℤ} {p end : ℕ} {ls : List (Test × Sum)} → LiteralAt bs p end t s ls
+      → BoundAt bs x p (negate (put x (pos 0) s))
+  unfolding GivesBound
+  literal-bound {bs} {p} l = record {
+    node = l .node;
+    sum = s;
+    stands = subst (λ (t : Test). BodyAt (drop p bs) (l .node) t s) (g .0) (l .stands);
+    formed = subst (λ (t : Test). InTable t s) (g .0) (l .formed);
+    lower = g .1;
+    bound-is = refl;
+  }
+
+-- a literal that gives none
+pub kept-none : {bs : List ℤ} {x : ℕ} {places : List ℕ} {k : ℕ} (t : Test) (s : Sum) (found : List Sum)
+    → GivesBound x t s false → BoundsAt bs x places k (once found)
+    → BoundsAt bs x places k (once (found ++ bound-of x t s))
+unfolding GivesBound
+kept-none {bs} {x} {places} {k} t s found g h =
+    subst (λ (l : List Sum). BoundsAt bs x places k (once l))
+    (sym (ap (λ (l : List Sum). found ++ l) g ∙ append-nil found)) h
+
+module _ {bs : List ℤ} {x p end k : ℕ} {places : List ℕ} {t : Test} {s : Sum} {ls : List (Test × Sum)}
+    (g : GivesBound x t s true) (l : LiteralAt bs p end t s ls) (found : List Sum)
+    (h : BoundsAt bs x places k (once found)) where
+  u : Sum
+  u = negate (put x (pos 0) s)
+
+  grown : found ++ bound-of x t s ≡ found ++ (u ∷ [])
+  unfolding u
+  grown = ap (λ (m : List Sum). found ++ m) (the-bound x t s g)
+
+  -- one that is known
+  pub kept-known : (i : ℕ) × (i < k) × Alike bs (getD places i 0) p
+      → BoundsAt bs x places k (once (found ++ bound-of x t s))
+  unfolding u
+  kept-known known =
+      subst (BoundsAt bs x places k)
+      (sym (ap once grown ∙ once-there u found (found-in h (literal-bound x t s g l) known))) h
+
+  -- one that is new
+  pub kept-new : ¬ ((i : ℕ) × (i < k) × Alike bs (getD places i 0) p) → k < length places
+      → BoundsAt bs x (set places k p) (k + 1) (once (found ++ bound-of x t s))
+  unfolding u
+  kept-new other room =
+      let b = literal-bound x t s g l in
+      subst (BoundsAt bs x (set places k p) (k + 1)) (sym (ap once grown ∙ once-new u found (not-in h b other)))
+      (held-more h b room)
+
+pub kept-room : {bs : List ℤ} {x p : ℕ} {places : List ℕ} {k : ℕ} (m : SomeKept bs x p places k)
+    → GivesBound x (m .literal .test) (m .literal .sum) true → k < length places
+kept-room {x = x} m g = omega (arith, m .room, ap length (the-bound x (m .literal .test) (m .literal .sum) g))
+
+-- ---- the loop over the literals
+
+-- the first k places give what the literals ks give, each once
+abbrev pub Kept : List ℤ → ℕ → List ℕ → ℕ → Passed
+Kept bs x places k ks = BoundsAt bs x places k (once (across (bound-of x) ks))
+
+pub kept-start : (bs : List ℤ) (x : ℕ) (places : List ℕ) → Kept bs x places 0 []
+unfolding across once
+kept-start bs x places =
+    record { as-many = refl; held = omega arith; each = λ i h. absurd (omega (arith, h)) }
+
+pub kept-step : {bs : List ℤ} {x : ℕ} {places : List ℕ} {k : ℕ} (t : Test) (s : Sum) (ks : List (Test × Sum))
+    → BoundsAt bs x places k (once (across (bound-of x) ks ++ bound-of x t s))
+    → Kept bs x places k (ks ++ ((t, s) ∷ []))
+unfolding across
+kept-step {bs} {x} {places} {k} t s ks h =
+    subst (λ (l : List Sum). BoundsAt bs x places k (once l))
+    (sym (across-append (bound-of x) ks ((t, s) ∷ [])
+    ∙ ap (λ (l : List Sum). across (bound-of x) ks ++ l) (append-nil (bound-of x t s)))) h
+
+pub kept-over : {bs : List ℤ} {x : ℕ} {places : List ℕ} {k : ℕ} (a : Rule) → Kept bs x places k (literals-of a)
+    → BoundsAt bs x places k (bounds x a)
+unfolding bounds
+kept-over {bs} {x} {places} {k} a h =
+    subst (λ (l : List Sum). BoundsAt bs x places k (once l)) (sym (gather-across (bound-of x) a)) h
+
+-- there is room for one more, since there is for all that the literals give
+pub kept-asks : {bs : List ℤ} {p end x : ℕ} {places : List ℕ} {k : ℕ} → Scanned bs p end (Kept bs x places k) → p < end
+    → SomeBody bs end → (room : ℕ) → length places ≡ room → RoomForBounds bs end x room → SomeKept bs x p places k
+unfolding across
+kept-asks {bs} {p} {end} {x} {places} {k} s more b room same enough =
+    let h = here bs p end (Kept bs x places k) (b .rule) more (s (b .number) (b .rule) (b .body)) in
+    let found : List Sum = across (bound-of x) (h .done) in
+    let this : List Sum = bound-of x (h .test) (h .sum) in
+    let left : List Sum = across (bound-of x) (h .left) in
+    let all = gather-across (bound-of x) (b .rule) ∙ ap (across (bound-of x)) (h .whole)
+    ∙ across-append (bound-of x) (h .done) ((h .test, h .sum) ∷ h .left) in
+    let long : length (gather (bound-of x) (b .rule)) ≡ length found + (length this + length left) =
+    ap length all ∙ length-append found (this ++ left)
+    ∙ ap (λ (n : ℕ). length found + n) (length-append this left) in
+    record {
+      end = end;
+      literal = record { test = h .test; sum = h .sum; others = h .left; at = h .at; few = b .few };
+      found = found;
+      held = h .so-far;
+      room = omega (arith, h .so-far .as-many, length-once found, long, same, enough (b .number) (b .rule) (b .body));
+    }

@@ -1,0 +1,13 @@
+pub mod RestLaws
+pub mod LastLaws
+pub mod CountLaws
+pub mod BehindLaws
+pub mod ChosenLaws
+pub mod SpanLaws
+pub mod CursorLaws
+pub mod ScanLaws
+pub mod LiteralWords
+pub mod MultipleLaws
+pub mod OnceLaws
+pub mod BoundLaws
+pub mod BoundCount

@@ -1,0 +1,6 @@
+pub mod Body
+pub mod Last
+pub mod Span
+pub mod Cursor
+pub mod Multiples
+pub mod Bounds

@@ -1,0 +1,6 @@
+// Loops over the nodes of a rule in a table: where it ends, which quantifier is chosen, D, P and the lower bounds.
+pub mod bounds;
+pub mod chosen;
+pub mod cursor;
+pub mod multiples;
+pub mod span;
