@@ -1,0 +1,12 @@
+pub mod ZeroLaws
+pub mod LeafLaws
+pub mod ChainLaws
+pub mod DownLaws
+pub mod UpLaws
+pub mod FoldLaws
+pub mod PutLaws
+pub mod SumLaws
+pub mod PairLaws
+pub mod LiteralLaws
+pub mod NormalLaws
+pub mod NotsLaws

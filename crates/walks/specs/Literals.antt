@@ -1,0 +1,57 @@
+-- What the leaf of a walk that folds asks for: a literal, and a change that leaves its numbers within the limit.
+-- Assumes nothing.
+use mathlib.Core.Path.{_≡_}
+use mathlib.Core.Bool.{not}
+use mathlib.Core.List.{List}
+use Prim.Native.Nat.{ℕ, _≤_}
+use lib.Dec.{T}
+use lib.IntN.{ℤ}
+use lib.ListN.{length}
+use Rattle.rules.specs.Sum.{Sum, limit, all-within}
+use Rattle.rules.specs.Rule.{Test}
+use Rattle.rules.specs.Literals.{some-literal}
+use Rattle.rules.specs.Eliminate.{over-limit}
+use Rattle.tables.proofs.Inversion.{test-kind}
+use Rattle.builder.specs.Built.{Countable}
+use Rattle.builder.specs.declared.push.State.{State}
+use Rattle.literals.specs.Literal.{LiteralAt}
+use Rattle.literals.specs.Changes.{becomes, Usable, changed-sum, changed-test, divisor-or-none}
+use Rattle.literals.specs.declared.change.Change.{Change}
+
+-- the test has this kind, and this divisor, 0 where it has none
+pub record Told (kind k : ℕ) (t : Test) : Type 0 where
+  pub same-kind : kind ≡ test-kind t
+  pub same-divisor : k ≡ divisor-or-none t
+
+-- some test has them, and the divisor is not over the limit
+pub record SomeTold (kind k : ℕ) : Type 0 where
+  pub test : Test
+  pub told : Told kind k test
+  pub small : k ≤ limit
+
+-- what putting a literal asks: seven words, and that they, a divisor and a kind can be counted
+pub record Puttable (kind k : ℕ) (s : Sum) (b : State) : Type 0 where
+  pub some : SomeTold kind k
+  pub seven : length s ≡ 7
+  pub countable : Countable b 9
+
+-- some literal stands there that the change keeps, its numbers within the limit
+pub record SomeKept (ws : List ℤ) (c : Change) (u : Sum) (b : State) : Type 0 where
+  pub node : ℕ
+  pub test : Test
+  pub sum : Sum
+  pub at : LiteralAt ws node test sum
+  pub usable : Usable c u
+  pub within : T (all-within limit (changed-sum c u sum))
+  pub small : divisor-or-none (changed-test c sum test) ≤ limit
+  pub countable : Countable b 9
+
+-- some literal stands there, and what becomes of it has no number over the limit
+pub record SomeLiteralReady (ws : List ℤ) (c : Change) (u : Sum) (b : State) : Type 0 where
+  pub node : ℕ
+  pub test : Test
+  pub sum : Sum
+  pub at : LiteralAt ws node test sum
+  pub usable : Usable c u
+  pub numbers : T (not (some-literal over-limit (becomes c u test sum)))
+  pub countable : Countable b 9
