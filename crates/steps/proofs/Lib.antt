@@ -1,0 +1,10 @@
+pub mod SumLaws
+pub mod NumberLaws
+pub mod DisjunctionWeights
+pub mod DisjunctLaws
+pub mod DisjunctionLaws
+pub mod BoundsLaws
+pub mod PeriodLaws
+pub mod MakingLaws
+pub mod ReplaceLaws
+pub mod AroundLaws

@@ -1,0 +1,4 @@
+pub mod Put
+pub mod Numbers
+pub mod Disjoining
+pub mod Making

@@ -1,0 +1,6 @@
+// What each step makes of the chosen quantifier, and of what stands around it.
+pub mod around;
+pub mod disjunction;
+pub mod made;
+pub mod numbers;
+pub mod sums;
