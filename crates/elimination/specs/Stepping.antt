@@ -1,0 +1,122 @@
+-- A step table in a lent buffer: what a step asks for, and what it leaves.
+-- Assumes nothing.
+use mathlib.Core.Path.{_≡_}
+use mathlib.Core.Bool.{Bool, true, false}
+use mathlib.Core.List.{List, []}
+use Prim.Native.Nat.{ℕ, _+_, _<_, _≤_}
+use lib.Dec.{leb}
+use lib.IntN.{ℤ}
+use lib.ListN.{length, drop}
+use Rattle.rules.specs.Rule.{Quantifier, for-some, for-all, Rule}
+use Rattle.rules.specs.Result.{Result, refused, given, _>>=_, require}
+use Rattle.rules.specs.Table.{most-words, count, size}
+use Rattle.rules.specs.Chosen.{the, nothing, chosen}
+use Rattle.rules.specs.Laws.{Each, WellFormed}
+use Rattle.rules.proofs.Sizes.{weight}
+use Rattle.rules.proofs.Shapes.{Shape}
+use Rattle.tables.specs.Standing.{TableAt}
+use Rattle.builder.specs.Built.{most-counted}
+use Rattle.builder.specs.declared.push.State.{State}
+use Rattle.folding.specs.Answers.{Gives}
+use Rattle.folding.specs.declared.answers.Folded.{Folded}
+use Rattle.bodies.specs.Body.{chosen-number, chosen-place}
+use Rattle.steps.specs.Making.{new-of, Makeable}
+use Rattle.elimination.specs.declared.locate.Located.{Located}
+use Rattle.elimination.specs.declared.locate.Located.the-variants.{Nowhere, There}
+use Rattle.elimination.specs.declared.locate.Quantified.{Quantified}
+use Rattle.steps.specs.declared.made.Step.{Step}
+
+-- ---- a table
+
+pub record HasTable (ts : List ℤ) (r : Rule) : Type 0 where
+  pub table : TableAt ts r
+  pub formed : WellFormed r
+  pub few : length ts ≤ most-words
+
+pub record SomeTable (ts : List ℤ) : Type 0 where
+  pub rule : Rule
+  pub has : HasTable ts rule
+
+-- ---- the chosen quantifier in it
+
+unfoldable pub is-some : Quantifier → Bool
+is-some for-some = true
+is-some for-all = false
+
+-- its number, its place, its setting, and how many words its body has
+pub record Locates (r : Rule) (q : Quantifier) (x : ℕ) (a : Rule) (c : Quantified) : Type 0 where
+  pub at : chosen r ≡ the q x a
+  pub number-is : c .node ≡ chosen-number r
+  pub place-is : c .place ≡ count r + 1 + chosen-place r
+  pub quantifier-is : c .some ≡ is-some q
+  pub setting-is : c .setting ≡ x
+  pub end-is : c .end ≡ weight a
+
+unfoldable pub LocatedIn : Rule → Located → Type 0
+LocatedIn r Nowhere = chosen r ≡ nothing
+LocatedIn r (There c) = (q : Quantifier) × (x : ℕ) × (a : Rule) × Locates r q x a c
+
+-- ---- a step
+
+-- the table of the rule r is in ts, and both buffers have exactly the room
+pub record StepReady (ts ws : List ℤ) (room : ℕ) (r : Rule) : Type 0 where
+  pub has : HasTable ts r
+  pub fits : size r ≤ room
+  pub table-room : length ts ≡ room
+  pub work-room : length ws ≡ room
+
+pub record SomeStepReady (ts ws : List ℤ) (room : ℕ) : Type 0 where
+  pub rule : Rule
+  pub ready : StepReady ts ws room rule
+
+-- the step's answer number, and its table where it has one
+unfoldable pub Stepped : Result Rule → ℕ → List ℤ → Type 0
+Stepped (refused k) n ts = n ≡ k
+Stepped (given f) n ts = (n ≡ 0) × TableAt ts f
+
+-- "size after folding (6)"
+unfoldable pub sized : ℕ → Rule → Result Rule
+unfolding _>>=_ require size
+sized room f = require (leb (size f) room) 6 >>= λ u. given f
+
+-- the new rule that a step puts in the place of the chosen quantifier, which is node c, can be built
+pub record Rebuilding (ts ws : List ℤ) (room c : ℕ) (step : Step) (places : List ℕ)
+    (r : Rule) (q : Quantifier) (x : ℕ) (a : Rule) : Type 0 where
+  pub ready : StepReady ts ws room r
+  pub at : chosen r ≡ the q x a
+  pub number-is : c ≡ chosen-number r
+  pub makeable : Makeable step (drop (count r + 1 + chosen-place r + 2) ts) places x a
+  pub shape : Each Shape (new-of step x a)
+
+pub record SomeRebuilding (ts ws : List ℤ) (room c : ℕ) (step : Step) (places : List ℕ) : Type 0 where
+  pub rule : Rule
+  pub quantifier : Quantifier
+  pub setting : ℕ
+  pub body : Rule
+  pub rebuilding : Rebuilding ts ws room c step places rule quantifier setting body
+
+-- ---- what is built becomes the table
+
+-- the state in which nothing is built
+abbrev pub none-built : State
+none-built = record { used = 0; nodes = 0 }
+
+-- the rule f is answered, where nothing was built before, and both buffers have exactly the room
+pub record Closing (ts ws : List ℤ) (room : ℕ) (folded : Folded) (f : Rule) : Type 0 where
+  pub gives : Gives ws none-built [] f folded
+  pub formed : WellFormed f
+  pub light : weight f < most-counted
+  pub table-room : length ts ≡ room
+  pub work-room : length ws ≡ room
+  pub most : room ≤ most-words
+
+pub record SomeClosing (ts ws : List ℤ) (room : ℕ) (folded : Folded) : Type 0 where
+  pub rule : Rule
+  pub closing : Closing ts ws room folded rule
+
+-- ---- the first step table
+
+pub record FirstReady (ts ws : List ℤ) (room : ℕ) : Type 0 where
+  pub table-room : length ts ≡ room
+  pub work-room : length ws ≡ room
+  pub most : room ≤ most-words

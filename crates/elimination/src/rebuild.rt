@@ -1,0 +1,93 @@
+// A step table from the last: built at the end of the work buffer, and put back in the last one's place.
+use builder::push;
+use finishing::finish;
+use folding::answers;
+use folding::answers::Folded;
+use literals::change::Change;
+use steps::around;
+use steps::made::Step;
+use tables::words;
+use walks::fold;
+ghost use mathlib.Core.Path.{_≡_};
+ghost use Prim.Native.Nat.{ℕ};
+ghost use Rattle.rules.specs.Rule.{Quantifier, Rule};
+ghost use Rattle.rules.specs.Result.{given};
+ghost use Rattle.rules.specs.Fold.{fold as fold-of};
+ghost use Rattle.rules.specs.Chosen.{replace};
+ghost use Rattle.rules.specs.Eliminate.{step-table};
+ghost use Rattle.rules.specs.Calls.{words as words-of, rule-of};
+ghost use Rattle.tables.specs.Checks.{Verdict};
+ghost use Rattle.tables.specs.declared.check.Checked.the-variants.{Table};
+ghost use Rattle.steps.specs.Making.{new-of};
+ghost use Rattle.elimination.specs.Stepping.{Stepped, sized, Rebuilding, SomeRebuilding};
+ghost use Rattle.elimination.specs.Stepping.{Closing, SomeClosing, FirstReady};
+
+// The table with the step's new rule in the place of the chosen quantifier, node `chosen`; 6 where it has no room.
+pub fn rebuilt(
+    table: &mut [u8],
+    work: &mut [u8],
+    room: usize,
+    chosen: usize,
+    step: Step,
+    places: &[u32],
+) -> u32
+    requires { ⌜ SomeRebuilding (words-of (now table)) (words-of (now work)) room chosen step (now places) ⌝ }
+    ensures { λ n. ⌜ ((r : Rule) (q : Quantifier) (x : ℕ) (a : Rule)
+        → Rebuilding (words-of (now (table .entry))) (words-of (now (work .entry))) room chosen step
+        (now (places .entry)) r q x a
+        → Stepped (sized room (fold-of (replace (new-of step x a) r))) n (words-of (now (table .exit)))) ⌝ }
+{
+    let n = words::natural(table, 0);
+    let from = (n + 1) * 4;
+    let nothing = [0i64, 0, 0, 0, 0, 0, 0];
+    let folded = around::around(
+        &table[4..],
+        &table[from..],
+        0,
+        n + 1,
+        chosen,
+        step,
+        places,
+        &nothing,
+        work,
+        push::start(),
+    );
+    closed(table, work, room, folded)
+}
+
+// "The input, folded, is the first step table".
+pub fn first(input: &[u8], n: usize, table: &mut [u8], work: &mut [u8], room: usize) -> u32
+    requires { ⌜ Verdict (rule-of (now input)) (Table n)
+        × FirstReady (words-of (now table)) (words-of (now work)) room ⌝ }
+    ensures { λ k. ⌜ ((r : Rule) → rule-of (now (input .entry)) ≡ given r
+        → Stepped (step-table room r) k (words-of (now (table .exit)))) ⌝ }
+{
+    let from = (n + 1) * 4;
+    let nothing = [0i64, 0, 0, 0, 0, 0, 0];
+    let folded = fold::fold(
+        &input[4..],
+        &input[from..],
+        0,
+        n + 1,
+        Change::Same,
+        &nothing,
+        work,
+        push::start(),
+    );
+    closed(table, work, room, folded)
+}
+
+// What is built becomes the table, if it has room.
+fn closed(table: &mut [u8], work: &mut [u8], room: usize, folded: Folded) -> u32
+    requires { ⌜ SomeClosing (words-of (now table)) (words-of (now work)) room folded ⌝ }
+    ensures { λ n. ⌜ ((f : Rule)
+        → Closing (words-of (now (table .entry))) (words-of (now (work .entry))) room folded f
+        → Stepped (sized room f) n (words-of (now (table .exit)))) ⌝ }
+{
+    let b = answers::stood(work, push::start(), folded);
+    if push::fits(b, room) {
+        finish::finish(work, b, table);
+        return 0;
+    }
+    6
+}
