@@ -1,9 +1,9 @@
-pub mod Sizes
-pub mod Terms
-pub mod Tests
-pub mod Literals
 pub mod Values
 pub mod MatchingLaws
 pub mod QuantifierLaws
 pub mod MatchedLaws
 pub mod OutcomeLaws
+pub mod EliminateNumbers
+pub mod EliminateLaws
+pub mod EliminatedLaws
+pub mod ResultLaws

@@ -18,7 +18,7 @@ use Rattle.rules.specs.Laws.{Each}
 use Rattle.rules.specs.Match.{joined, holds, choice}
 use Rattle.rules.specs.Calls.{signed, words as words-of}
 use Rattle.rules.proofs.Meaning.{join-free}
-use Rattle.rules.proofs.Sizes.{words, weight, count-pos}
+use Rattle.rules.proofs.Sizes.{weight, count-pos, weight-pos}
 use Rattle.tables.specs.Standing.{Stands}
 use Rattle.tables.proofs.WordLaws.{number-of, words-from, words-length}
 use Rattle.tables.proofs.WalkLaws.{part}
@@ -31,7 +31,7 @@ use Rattle.tables.proofs.Inversion.{
   literal as stood-literal,
   bind as stood-bind,
 }
-use Rattle.leaveoff.specs.Literal.{LiteralAt, SomeLiteral}
+use Rattle.literals.specs.Literal.{LiteralAt, SomeLiteral}
 use Rattle.leaveoff.specs.Matching.{Matchable, SomeMatchable}
 
 -- what settles a join
@@ -121,19 +121,6 @@ moved es bs {i} {j} {n} {p} e f m q a x y z w h =
     (subst (λ (u : ℕ). Matchable (drop i es) (drop u bs) m q a) y
     (subst (λ (u : ℕ). Matchable (drop i es) (drop j bs) u q a) z
     (subst (λ (u : ℕ). Matchable (drop i es) (drop j bs) n u a) w h)))
-
-weight-pos : (r : Rule) → 1 ≤ weight r
-unfolding weight words
-weight-pos (Constant b) = omega arith
-weight-pos (Join j a b) = omega arith
-weight-pos (Not a) = omega arith
-weight-pos (Literal t s) = omega (arith, literal-long t s)
-  where
-    literal-long : (t : Test) (s : Sum) → 1 ≤ words (literal-node t s)
-    literal-long positive s = omega arith
-    literal-long (divisible b k) s = omega arith
-    literal-long is-zero s = omega arith
-weight-pos (Bind q v a) = omega arith
 
 -- a join has its own node and those of its sides
 join-inside : {es bs : List ℤ} {n p : ℕ} (a : Rule) (j : Junction) (b c : Rule) → a ≡ Join j b c → Matchable es bs n p a

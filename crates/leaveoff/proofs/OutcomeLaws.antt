@@ -23,7 +23,7 @@ use Rattle.tables.specs.declared.check.Checked.{Checked}
 use Rattle.tables.specs.declared.check.Checked.the-variants.{Not}
 use Rattle.leaveoff.specs.Outcome.{answer-of, SaysWhether, packed, unpacked, Fits}
 use Rattle.leaveoff.specs.declared.answer.Answer as declared
-use Rattle.leaveoff.proofs.Literals.{values-again}
+use Rattle.literals.proofs.Literals.{values-again}
 
 -- ---- packing
 

@@ -3,9 +3,7 @@
 use mathlib.Core.Path.{_≡_, sym, ap, ap₂, _∙_, subst}
 use mathlib.Core.Bool.{Bool, true, false, _&&_}
 use mathlib.Core.List.{List, [], _∷_}
-use Prim.Native.Nat.{suc}
 use native.Mathlib.Omega.{arith}
-use borrow.Author.Tests.{ltb-true, ltb-false, le-leb, lt-leb}
 use lib.Dec.{T, leb, leb→le}
 use lib.IntN.{ℤ, pos, negsuc, natAbs}
 use lib.Signed.{ltZ}
@@ -17,8 +15,9 @@ use Rattle.whole.specs.Integers.{within}
 use Rattle.whole.proofs.Tests.{T-and}
 use Rattle.rules.specs.Sum.{all-within}
 use Rattle.rules.specs.Match.{most-value}
-use Rattle.leaveoff.proofs.Sizes.{fits-size}
-use Rattle.leaveoff.proofs.Literals.{values-again}
+use Rattle.literals.proofs.Sizes.{fits-size}
+use Rattle.literals.proofs.Ranges.{under, over, inside}
+use Rattle.literals.proofs.Literals.{values-again}
 
 -- a value that is in range, as the 32 bits that it is handed on in
 abbrev again : ℤ → ℤ
@@ -60,21 +59,6 @@ values-read (a ∷ b ∷ c ∷ d ∷ e ∷ f ∷ g ∷ vs) h t = absurd (omega a
 
 -- ---- a value's range
 
-never : {A : Type 0} → false ≡ true → A
-never e = absurd (subst T (sym e) tt)
-
-under : (v : ℤ) → ltZ v (negsuc 499999999) ≡ true → within most-value v ≡ false
-under (negsuc n) e = lt-leb (suc n) 500000000 (omega (arith, ltb-true 499999999 n e))
-under (pos n) e = never e
-
-over : (v : ℤ) → ltZ (pos 500000000) v ≡ true → within most-value v ≡ false
-over (pos n) e = lt-leb n 500000000 (ltb-true 500000000 n e)
-over (negsuc n) e = never e
-
-inside : (v : ℤ) → ltZ v (negsuc 499999999) ≡ false → ltZ (pos 500000000) v ≡ false → within most-value v ≡ true
-inside (pos n) e f = le-leb n 500000000 (ltb-false 500000000 n f)
-inside (negsuc n) e f = le-leb (suc n) 500000000 (omega (arith, ltb-false 499999999 n e))
-
 module _ (v : ℤ) (fits : SFits w32 v) (behind : Bool) where
   low : (b : Bool) → ltZ (again v) (negsuc 499999999) ≡ b → ltZ v (negsuc 499999999) ≡ b
   low b e = ap (λ (z : ℤ). ltZ z (negsuc 499999999)) (sym (toZ-ofZ fits)) ∙ e
@@ -83,14 +67,14 @@ module _ (v : ℤ) (fits : SFits w32 v) (behind : Bool) where
   high b e = ap (ltZ (pos 500000000)) (sym (toZ-ofZ fits)) ∙ e
 
   pub under-range : ltZ (again v) (negsuc 499999999) ≡ true → false ≡ (within most-value v && behind)
-  under-range e = sym (ap (λ (b : Bool). b && behind) (under v (low true e)))
+  under-range e = sym (ap (λ (b : Bool). b && behind) (under 499999999 v (low true e)))
 
   pub over-range : ltZ (pos 500000000) (again v) ≡ true → false ≡ (within most-value v && behind)
-  over-range e = sym (ap (λ (b : Bool). b && behind) (over v (high true e)))
+  over-range e = sym (ap (λ (b : Bool). b && behind) (over most-value v (high true e)))
 
   pub in-range : ltZ (again v) (negsuc 499999999) ≡ false → ltZ (pos 500000000) (again v) ≡ false
       → behind ≡ (within most-value v && behind)
-  in-range e f = sym (ap (λ (b : Bool). b && behind) (inside v (low false e) (high false f)))
+  in-range e f = sym (ap (λ (b : Bool). b && behind) (inside 499999999 v (low false e) (high false f)))
 
 -- one value more
 pub and-behind : (v : ℤ) (vs : List ℤ) {b r : Bool} → SFits w32 v → r ≡ (within most-value (again v) && b)

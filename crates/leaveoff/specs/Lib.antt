@@ -1,4 +1,4 @@
-pub mod Literal
 pub mod Matching
 pub mod Quantifiers
 pub mod Outcome
+pub mod Result

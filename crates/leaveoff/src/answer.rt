@@ -1,6 +1,5 @@
 // The answer of a call, and its 64 bits.
 ghost use mathlib.Core.Path.{_≡_};
-ghost use Prim.Native.Nat.{_≤_};
 ghost use Rattle.rules.specs.Answer.{refusal};
 ghost use Rattle.leaveoff.specs.Outcome.{answer-of, verdict-alone, packed, Fits};
 

@@ -1,10 +1,22 @@
 // The calls as a C program or a Rust service links them: each answer packed into 64 bits.
 use crate::answer;
+use crate::eliminate;
 use crate::matching;
 ghost use mathlib.Core.Path.{_≡_};
 ghost use mathlib.Core.List.{[], _∷_};
-ghost use Rattle.rules.specs.Calls.{matched};
-ghost use Rattle.leaveoff.specs.Outcome.{SaysWhether, packed, unpacked};
+ghost use lib.ListN.{length};
+ghost use Rattle.rules.specs.Calls.{eliminated, matched};
+ghost use Rattle.leaveoff.specs.Outcome.{Leaves, Eliminates, SaysWhether, packed, unpacked};
+
+// Elimination, on any bytes and any lent buffers.
+#[no_mangle]
+pub extern "C" fn leaveoff_eliminate(table: &[u8], out: &mut [u8], work: &mut [u8]) -> u64
+    ensures { λ r. ⌜ Leaves (eliminated (now (table .entry)) (length (now (out .entry))) (length (now (work .entry))))
+        r (now (out .exit)) (now (work .exit)) ⌝ }
+    ensures { λ r. ⌜ Eliminates (now (table .entry)) (now (out .exit)) (unpacked r) ⌝ }
+{
+    answer::pack(eliminate::eliminate(table, out, work))
+}
 
 // Matching, on any bytes and any six values.
 #[no_mangle]

@@ -1,6 +1,7 @@
-// The leave-off test and matching, on lent bytes.
+// The calls on lent bytes: elimination and matching.
 pub mod answer;
+pub mod eliminate;
 pub mod exports;
-mod literal;
 pub mod matching;
 mod quantifiers;
+mod result;

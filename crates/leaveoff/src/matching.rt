@@ -1,8 +1,8 @@
 // Matching: whether a table's rule holds at six values.
 use crate::answer;
 use crate::answer::Answer;
-use crate::literal;
 use crate::quantifiers;
+use literals::literal;
 use tables::check;
 use tables::check::Checked;
 use tables::words;
@@ -19,7 +19,7 @@ ghost use Rattle.rules.specs.Match.{most-value, choice, holds as holds-at};
 ghost use Rattle.rules.specs.Calls.{words as words-of, rule-of, matched};
 ghost use Rattle.tables.specs.Checks.{Verdict};
 ghost use Rattle.tables.specs.declared.check.Checked.the-variants.{Table};
-ghost use Rattle.leaveoff.specs.Literal.{LiteralAt, SomeLiteral};
+ghost use Rattle.literals.specs.Literal.{LiteralAt, SomeLiteral};
 ghost use Rattle.leaveoff.specs.Matching.{Matchable, SomeMatchable};
 ghost use Rattle.leaveoff.specs.Outcome.{answer-of, due-number, SaysWhether};
 

@@ -11,9 +11,6 @@ use mathlib.Core.Path.{sym, _∙_, ap, subst}
 use borrow.Author.Needs.{needs}
 use Rattle.leaveoff.proofs.matching.literal_holds.Statement.{statement}
 use Rattle.leaveoff.proofs.matching.literal_holds.Tie as tie
-use Rattle.leaveoff.proofs.matching.literal_holds.Reads as reads
-use Rattle.leaveoff.proofs.matching.literal_holds.Lts as lts
-use Rattle.leaveoff.proofs.literal.holds.Reads as holds-reads
 
 shared-slice-copy-out-holds : tie.Need-shared-slice-copy-out-holds
 shared-slice-copy-out-holds c = search needs

@@ -16,7 +16,7 @@ use Rattle.tables.proofs.WordLaws.{words-length}
 use Rattle.tables.proofs.WalkLaws.{part-long}
 use Rattle.tables.proofs.Passed.{TableOf, passed, table-inside, table-most, table-listed}
 use Rattle.leaveoff.specs.Outcome.{verdict-alone}
-use Rattle.leaveoff.proofs.Literals.{values-again}
+use Rattle.literals.proofs.Literals.{values-again}
 use Rattle.leaveoff.proofs.Values.{within-again, were-within}
 use Rattle.leaveoff.proofs.MatchingLaws.{part-words}
 use Rattle.leaveoff.proofs.MatchedLaws.{scanned, matchable, due-refused, none-due, answered}

@@ -1,0 +1,24 @@
+-- A result's table at the start of a lent buffer of any length, and the verdict by the kind of its root.
+-- Assumes nothing.
+use mathlib.Core.Bool.{cond}
+use mathlib.Core.List.{List}
+use Prim.Native.Nat.{ℕ, _≤_}
+use lib.Dec.{eqb}
+use lib.IntN.{ℤ}
+use Rattle.rules.specs.Rule.{Rule}
+use Rattle.rules.specs.Table.{most-words, size}
+use Rattle.rules.specs.Laws.{QuantifierFree, WellFormed}
+use Rattle.tables.specs.Standing.{TableAt}
+
+pub record Held (ts : List ℤ) (r : Rule) : Type 0 where
+  pub table : TableAt ts r
+  pub formed : WellFormed r
+  pub most : size r ≤ most-words
+
+pub record SomeHeld (ts : List ℤ) : Type 0 where
+  pub rule : Rule
+  pub held : Held ts rule
+
+-- the kinds of a bare false and a bare true are 0 and 1
+abbrev pub kind-verdict : ℕ → ℕ
+kind-verdict k = cond (eqb k 0) 2 (cond (eqb k 1) 1 3)
