@@ -66,6 +66,45 @@ pub fn matches(table: &[u8], values: [i32; 6]) -> Answer {
     Answer::unpack(ffi::matching(table, values))
 }
 
+/// Elimination: gives an equivalent table without quantifiers, in lent memory.
+///
+/// Precondition: none. Any bytes and any lent buffers get an answer. The room is the shorter of the
+/// two buffers in whole words, at most 16,384.
+///
+/// Postcondition: the number is the first of these that is due, and 0 when none is.
+///
+/// | No. | Given when |
+/// |---|---|
+/// | 1 to 4 | the table is malformed, as for [`matches`] |
+/// | 5 | in a step table a literal number passes ±2,147,483,647, or a divisor 2,147,483,647 |
+/// | 6 | a step table, folded, needs more than the room |
+/// | 7 | the common factor or the period passes 4,096 |
+///
+/// With 0 the table of the result is at the start of `out`, with zeros after it: it has no
+/// quantifier, names only settings that are free in the rule, and holds at exactly the choices at
+/// which the rule holds. The verdict is 1 when it is true, 2 when it is false and 3 when it is open;
+/// words and settings are those of the result. With any other number `out` is zeros, and verdict,
+/// words and settings are 0. `work` is zeros after every call.
+///
+/// The call does not panic, allocates nothing and keeps nothing, so that many threads may call at
+/// once. For the deepest table a stack of 2 MiB is enough.
+///
+/// ```
+/// // for some s1, 2·s1 = s2
+/// let words = [2, 3, 5, 8, 1, 10, 0, 2, -1, 0, 0, 0, 0];
+/// let table: Vec<u8> = words.into_iter().flat_map(i32::to_le_bytes).collect();
+/// let (mut out, mut work) = ([0; 4 * 38], [0; 4 * 38]);
+/// let answer = service::eliminate(&table, &mut out, &mut work);
+/// assert_eq!((answer.number, answer.verdict, answer.words), (0, 3, 11));
+/// // 2 divides s2
+/// let result = [1, 2, 6, 2, 0, 0, 1, 0, 0, 0, 0];
+/// assert!(result.into_iter().flat_map(i32::to_le_bytes).eq(out[..44].iter().copied()));
+/// ```
+#[must_use]
+pub fn eliminate(table: &[u8], out: &mut [u8], work: &mut [u8]) -> Answer {
+    Answer::unpack(ffi::eliminate(table, out, work))
+}
+
 #[cfg(test)]
 mod tests {
     use super::Answer;

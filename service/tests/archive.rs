@@ -18,8 +18,10 @@ struct Symbol {
 fn the_archive_asks_for_nothing_but_moving_bytes() {
     let archive = fs::read(ARCHIVE).expect("the archive that was linked");
     let symbols: Vec<Symbol> = objects(&archive).into_iter().flat_map(symbols).collect();
-    let call = |symbol: &Symbol| symbol.defined && symbol.name == "leaveoff_match";
-    assert!(symbols.iter().any(call), "the symbols are not understood");
+    for call in ["leaveoff_match", "leaveoff_eliminate"] {
+        let is_call = |symbol: &Symbol| symbol.defined && symbol.name == call;
+        assert!(symbols.iter().any(is_call), "there is no {call}");
+    }
     let asked = symbols.iter().filter(|symbol| !symbol.defined);
     let others: Vec<&str> = asked
         .map(|symbol| &*symbol.name)

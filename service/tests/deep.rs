@@ -3,7 +3,7 @@
 mod independent;
 mod tables;
 
-use service::{Answer, matches};
+use service::{Answer, eliminate, matches};
 use std::thread::{Builder, scope};
 
 const STACK: usize = 2 << 20;
@@ -197,4 +197,74 @@ fn the_independent_implementation_agrees() {
             .spawn_scoped(s, check)
             .unwrap();
     });
+}
+
+/// A quantifier of kind 8 or 9 over setting 1, in front.
+fn bound(kind: i32, body: Vec<Vec<i32>>) -> Vec<Vec<i32>> {
+    let mut bodies = vec![vec![kind, 1]];
+    bodies.extend(body);
+    bodies
+}
+
+/// Ands down the left side over a for-some that is true; the other sides are open.
+fn ands_over_a_quantifier(count: i32) -> Vec<Vec<i32>> {
+    let mut bodies: Vec<_> = (0..count).map(|i| vec![2, 2 * count + 1 - i]).collect();
+    bodies.extend(bound(8, vec![LITERAL.to_vec()]));
+    bodies.resize(2 * count as usize + 2, vec![5, 0, 0, 1, 0, 0, 0, 0]);
+    bodies
+}
+
+/// The deepest rules for elimination, with the words of each table and the verdict and the words of its result.
+fn eliminations() -> Vec<(&'static str, Vec<Vec<i32>>, usize, u8, u32)> {
+    let quantifiers = [vec![vec![8, 1]; 5460], vec![vec![1]]].concat();
+    let nots_over_some = [vec![vec![4]; 8185], bound(8, vec![LITERAL.to_vec()])].concat();
+    vec![
+        ("nots over true", nots(8190, &[1]), 16_383, 1, 3),
+        (
+            "nots over a literal",
+            nots(8187, &LITERAL),
+            16_384,
+            3,
+            16_384,
+        ),
+        (
+            "nots under a for-some",
+            bound(8, nots(8185, &LITERAL)),
+            16_383,
+            1,
+            3,
+        ),
+        ("nots over a for-some", nots_over_some, 16_383, 2, 3),
+        ("quantifiers over true", quantifiers, 16_383, 1, 3),
+        ("ands down the left", left_comb(2, 3276, 0), 16_383, 2, 3),
+        ("ands down the right", right_comb(2, 3276, 1), 16_383, 1, 3),
+        (
+            "ands over a for-some",
+            ands_over_a_quantifier(1300),
+            15_613,
+            3,
+            15_598,
+        ),
+    ]
+}
+
+#[test]
+fn elimination_of_the_deepest_tables_needs_no_more_than_two_mebibytes() {
+    let run = || {
+        for (name, bodies, words, verdict, words_left) in eliminations() {
+            let table = tables::bytes(&tables::words(&bodies));
+            assert_eq!(table.len(), 4 * words, "{name}");
+            let (mut out, mut work) = (vec![0xaa; 65_536], vec![0xaa; 65_536]);
+            let answer = eliminate(&table, &mut out, &mut work);
+            let left = (answer.number, answer.verdict, answer.words);
+            assert_eq!(left, (0, verdict, words_left), "{name}");
+            assert!(work.iter().all(|&byte| byte == 0), "{name}");
+        }
+    };
+    Builder::new()
+        .stack_size(STACK)
+        .spawn(run)
+        .unwrap()
+        .join()
+        .unwrap();
 }

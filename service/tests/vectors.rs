@@ -7,6 +7,7 @@ use lines::{Buffer, Call, Line, line, lines};
 use service::Answer;
 
 const MATCH: &str = include_str!("vectors/match.txt");
+const ELIMINATION: &str = include_str!("vectors/elim.txt");
 
 /// Runs every line; both calls take the table and the values.
 fn run(matches: fn(&[u8], [i32; 6]) -> Answer) {
@@ -24,6 +25,20 @@ fn run(matches: fn(&[u8], [i32; 6]) -> Answer) {
 #[test]
 fn the_library_answers_every_line() {
     run(service::matches);
+}
+
+#[test]
+fn elimination_leaves_every_byte_of_every_line() {
+    let lines = lines(ELIMINATION);
+    assert_eq!(lines.len(), 106);
+    for (at, line) in lines {
+        assert_eq!(line.call, Call::Eliminate, "line {at}");
+        let (mut out, mut work) = (vec![0xaa; line.out_length], vec![0xaa; line.work_length]);
+        let answer = service::eliminate(&line.table, &mut out, &mut work);
+        assert_eq!(answer, line.answer, "line {at}");
+        assert!(line.out.holds(&out), "line {at}: the output");
+        assert!(line.work.holds(&work), "line {at}: the work buffer");
+    }
 }
 
 #[test]

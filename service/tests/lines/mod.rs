@@ -1,4 +1,4 @@
-//! Test lines: a call and all that it leaves. vectors/match.txt says how they are written.
+//! Test lines: a call and all that it leaves. vectors/ says how they are written.
 
 use service::Answer;
 
@@ -14,6 +14,20 @@ pub enum Call {
 pub enum Buffer {
     Bytes(Vec<u8>),
     Hash { fnv: u64, length: usize },
+}
+
+impl Buffer {
+    pub fn holds(&self, bytes: &[u8]) -> bool {
+        match self {
+            Buffer::Bytes(expected) => bytes == expected,
+            Buffer::Hash { fnv, length } => bytes.len() == *length && fnv_1a(bytes) == *fnv,
+        }
+    }
+}
+
+fn fnv_1a(bytes: &[u8]) -> u64 {
+    let mix = |hash: u64, &byte: &u8| (hash ^ u64::from(byte)).wrapping_mul(0x0100_0000_01b3);
+    bytes.iter().fold(0xcbf2_9ce4_8422_2325, mix)
 }
 
 #[derive(Debug, PartialEq)]
