@@ -214,44 +214,37 @@ fn ands_over_a_quantifier(count: i32) -> Vec<Vec<i32>> {
     bodies
 }
 
-/// The deepest rules for elimination, with the words of each table and the verdict and the words of its result.
-fn eliminations() -> Vec<(&'static str, Vec<Vec<i32>>, usize, u8, u32)> {
+/// A rule for elimination, the words of its table, and the verdict and the words of its result.
+struct Elimination(&'static str, Vec<Vec<i32>>, usize, u8, u32);
+
+/// The deepest rules.
+fn eliminations() -> Vec<Elimination> {
     let quantifiers = [vec![vec![8, 1]; 5460], vec![vec![1]]].concat();
-    let nots_over_some = [vec![vec![4]; 8185], bound(8, vec![LITERAL.to_vec()])].concat();
+    let under = bound(8, nots(8185, &LITERAL));
+    let over = [vec![vec![4]; 8185], bound(8, vec![LITERAL.to_vec()])].concat();
+    let ands = ands_over_a_quantifier(1300);
     vec![
-        ("nots over true", nots(8190, &[1]), 16_383, 1, 3),
-        (
+        Elimination("nots over true", nots(8190, &[1]), 16_383, 1, 3),
+        Elimination(
             "nots over a literal",
             nots(8187, &LITERAL),
             16_384,
             3,
             16_384,
         ),
-        (
-            "nots under a for-some",
-            bound(8, nots(8185, &LITERAL)),
-            16_383,
-            1,
-            3,
-        ),
-        ("nots over a for-some", nots_over_some, 16_383, 2, 3),
-        ("quantifiers over true", quantifiers, 16_383, 1, 3),
-        ("ands down the left", left_comb(2, 3276, 0), 16_383, 2, 3),
-        ("ands down the right", right_comb(2, 3276, 1), 16_383, 1, 3),
-        (
-            "ands over a for-some",
-            ands_over_a_quantifier(1300),
-            15_613,
-            3,
-            15_598,
-        ),
+        Elimination("nots under a for-some", under, 16_383, 1, 3),
+        Elimination("nots over a for-some", over, 16_383, 2, 3),
+        Elimination("quantifiers over true", quantifiers, 16_383, 1, 3),
+        Elimination("ands down the left", left_comb(2, 3276, 0), 16_383, 2, 3),
+        Elimination("ands down the right", right_comb(2, 3276, 1), 16_383, 1, 3),
+        Elimination("ands over a for-some", ands, 15_613, 3, 15_598),
     ]
 }
 
 #[test]
 fn elimination_of_the_deepest_tables_needs_no_more_than_two_mebibytes() {
     let run = || {
-        for (name, bodies, words, verdict, words_left) in eliminations() {
+        for Elimination(name, bodies, words, verdict, words_left) in eliminations() {
             let table = tables::bytes(&tables::words(&bodies));
             assert_eq!(table.len(), 4 * words, "{name}");
             let (mut out, mut work) = (vec![0xaa; 65_536], vec![0xaa; 65_536]);
