@@ -1,9 +1,10 @@
 //! The deepest tables, on the stack that Rust gives a thread by default, and many threads at once.
 
 mod independent;
+mod numbers;
 mod tables;
 
-use service::{Answer, eliminate, matches};
+use numbers::{Numbers, eliminate, matches};
 use std::thread::{Builder, scope};
 
 const STACK: usize = 2 << 20;
@@ -141,7 +142,7 @@ fn cases() -> Vec<Case> {
     ]
 }
 
-fn check(cases: &[Case], matches: fn(&[u8], [i32; 6]) -> Answer) {
+fn check(cases: &[Case], matches: fn(&[u8], [i32; 6]) -> Numbers) {
     for Case {
         name,
         table,
@@ -150,12 +151,11 @@ fn check(cases: &[Case], matches: fn(&[u8], [i32; 6]) -> Answer) {
         verdict,
     } in cases
     {
-        let expected = Answer {
+        let expected = Numbers {
             number: *number,
             verdict: *verdict,
             words: 0,
             settings: 0,
-            place: 0,
         };
         assert_eq!(matches(table, *values), expected, "{name}");
     }

@@ -2,9 +2,10 @@
 //! them the cases are fixed.
 
 mod independent;
+mod numbers;
 mod tables;
 
-use service::matches;
+use numbers::matches;
 use std::io::Write;
 
 const MAX: i32 = i32::MAX;

@@ -2,15 +2,16 @@
 
 mod independent;
 mod lines;
+mod numbers;
 
 use lines::{Buffer, Call, Line, line, lines};
-use service::Answer;
+use numbers::Numbers;
 
 const MATCH: &str = include_str!("vectors/match.txt");
 const ELIMINATION: &str = include_str!("vectors/elim.txt");
 
 /// Runs every line; both calls take the table and the values.
-fn run(matches: fn(&[u8], [i32; 6]) -> Answer) {
+fn run(matches: fn(&[u8], [i32; 6]) -> Numbers) {
     let lines = lines(MATCH);
     assert_eq!(lines.len(), 58);
     for (at, line) in lines {
@@ -24,7 +25,7 @@ fn run(matches: fn(&[u8], [i32; 6]) -> Answer) {
 
 #[test]
 fn the_library_answers_every_line() {
-    run(service::matches);
+    run(numbers::matches);
 }
 
 #[test]
@@ -34,7 +35,7 @@ fn elimination_leaves_every_byte_of_every_line() {
     for (at, line) in lines {
         assert_eq!(line.call, Call::Eliminate, "line {at}");
         let (mut out, mut work) = (vec![0xaa; line.out_length], vec![0xaa; line.work_length]);
-        let answer = service::eliminate(&line.table, &mut out, &mut work);
+        let answer = numbers::eliminate(&line.table, &mut out, &mut work);
         assert_eq!(answer, line.answer, "line {at}");
         assert!(line.out.holds(&out), "line {at}: the output");
         assert!(line.work.holds(&work), "line {at}: the work buffer");
@@ -49,12 +50,11 @@ fn the_independent_implementation_answers_every_line() {
 #[test]
 fn the_three_calls_are_read() {
     let none = || Buffer::Bytes(Vec::new());
-    let answer = |number, verdict, words, settings| Answer {
+    let answer = |number, verdict, words, settings| Numbers {
         number,
         verdict,
         words,
         settings,
-        place: 0,
     };
     let read = [
         (

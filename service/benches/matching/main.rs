@@ -2,19 +2,21 @@
 //! A time is the least of many, in nanoseconds for a call.
 
 mod inputs;
+#[path = "../../tests/numbers/mod.rs"]
+mod numbers;
 mod plain;
 #[path = "../../tests/tables/mod.rs"]
 mod tables;
 
 use inputs::{Input, VALUES};
-use service::Answer;
+use numbers::Numbers;
 use std::hint::black_box;
 use std::time::{Duration, Instant};
 
-type Matches = fn(&[u8], [i32; 6]) -> Answer;
+type Matches = fn(&[u8], [i32; 6]) -> Numbers;
 
 /// The library first.
-const SIDES: [Matches; 2] = [service::matches, plain::matches];
+const SIDES: [Matches; 2] = [numbers::matches, plain::matches];
 
 const RUNS: usize = 60;
 const RUN: Duration = Duration::from_millis(2);

@@ -1,24 +1,23 @@
 //! Matching in plain Rust: the checks of the library in its order, on the lent bytes, without a heap.
 
-use service::Answer;
+use crate::numbers::Numbers;
 
 const MOST_WORDS: usize = 16_384;
 const MOST_VALUE: u32 = 500_000_000;
 
 type Word = [u8; 4];
 
-pub fn matches(table: &[u8], values: [i32; 6]) -> Answer {
+pub fn matches(table: &[u8], values: [i32; 6]) -> Numbers {
     let (number, verdict) = match matching(table, &values) {
         Ok(true) => (0, 1),
         Ok(false) => (0, 2),
         Err(refusal) => (refusal, 0),
     };
-    Answer {
+    Numbers {
         number,
         verdict,
         words: 0,
         settings: 0,
-        place: 0,
     }
 }
 

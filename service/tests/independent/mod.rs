@@ -1,7 +1,7 @@
 //! Matching once more, written from the paper alone and not from the library: trees, and whole
 //! numbers of 128 bits.
 
-use service::Answer;
+use crate::numbers::Numbers;
 
 const LARGEST: i128 = 2_147_483_647;
 const LARGEST_VALUE: i128 = 500_000_000;
@@ -32,18 +32,17 @@ enum Body {
     Quantifier,
 }
 
-pub fn matches(table: &[u8], values: [i32; 6]) -> Answer {
+pub fn matches(table: &[u8], values: [i32; 6]) -> Numbers {
     let (number, verdict) = match matching(table, values.map(i128::from)) {
         Ok(true) => (0, 1),
         Ok(false) => (0, 2),
         Err(refusal) => (refusal, 0),
     };
-    Answer {
+    Numbers {
         number,
         verdict,
         words: 0,
         settings: 0,
-        place: 0,
     }
 }
 

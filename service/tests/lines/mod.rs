@@ -1,6 +1,6 @@
 //! Test lines: a call and all that it leaves. vectors/ says how they are written.
 
-use service::Answer;
+use crate::numbers::Numbers;
 
 #[derive(Debug, PartialEq)]
 pub enum Call {
@@ -36,7 +36,7 @@ pub struct Line {
     pub table: Vec<u8>,
     pub out_length: usize,
     pub work_length: usize,
-    pub answer: Answer,
+    pub answer: Numbers,
     pub out: Buffer,
     pub work: Buffer,
 }
@@ -70,12 +70,11 @@ pub fn line(text: &str) -> Option<Line> {
         table: hex(table)?,
         out_length: out_length.parse().ok()?,
         work_length: work_length.parse().ok()?,
-        answer: Answer {
+        answer: Numbers {
             number: number.parse().ok()?,
             verdict: verdict.parse().ok()?,
             words: words.parse().ok()?,
             settings: settings.parse().ok()?,
-            place: 0,
         },
         out: buffer(out)?,
         work: buffer(work)?,
