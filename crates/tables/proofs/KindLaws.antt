@@ -26,6 +26,7 @@ use Rattle.tables.specs.declared.reading.Reading.{Reading}
 use Rattle.tables.specs.declared.reading.Reading.the-variants.{Whole, Refused}
 use Rattle.tables.specs.Reads.{Passes, SumAt, NumberAt, DividedAt, FieldsAt, NodeRead, NodeAt}
 use Rattle.tables.specs.Reads.{widths, forms, kind-of}
+use Rattle.tables.specs.Checks.{arities}
 use Rattle.tables.proofs.WordLaws.{signed-low, signed-high}
 use Rattle.tables.proofs.Standings.{width-is}
 use Rattle.tables.proofs.Fields.{turned, a-setting}
@@ -68,6 +69,29 @@ found n m d l t k h =
 
 pub missing : (m d : ℕ) (l : List ℕ) → d ≤ m → (k : ℕ) → length l ≤ k → (d ≡ getD l k d) × (d ≤ m)
 missing m d l e k h = (sym (List·getD-eq-default l d h), e)
+
+-- what holds of h * 2 and of h * 2 + 1 holds of every kind whose half is h
+pub of-half : (P : ℕ → Type 0) (h k : ℕ) → k / 2 ≡ h → P (h * 2) → P (h * 2 + 1) → P k
+of-half P h k e even odd = by (ℕ-discrete k (h * 2))
+  where
+    by : Dec (k ≡ h * 2) → P k
+    by (yes i) = subst P (sym i) even
+    by (no f) = let i : h * 2 + 1 ≡ k = omega (arith, f) in subst P i odd
+
+-- the kinds of and, or, not and the quantifiers alone have children
+pub childless : (k : ℕ) → ¬ (k / 2 ≡ 1) → ¬ (k ≡ 4) → ¬ (k / 2 ≡ 4) → 0 ≡ getD arities k 0
+childless zero join not bind = refl
+childless (suc zero) join not bind = refl
+childless (suc (suc zero)) join not bind = absurd (join refl)
+childless (suc (suc (suc zero))) join not bind = absurd (join refl)
+childless (suc (suc (suc (suc zero)))) join not bind = absurd (not refl)
+childless (suc (suc (suc (suc (suc zero))))) join not bind = refl
+childless (suc (suc (suc (suc (suc (suc zero)))))) join not bind = refl
+childless (suc (suc (suc (suc (suc (suc (suc zero))))))) join not bind = refl
+childless (suc (suc (suc (suc (suc (suc (suc (suc zero)))))))) join not bind = absurd (bind refl)
+childless (suc (suc (suc (suc (suc (suc (suc (suc (suc zero))))))))) join not bind = absurd (bind refl)
+childless (suc (suc (suc (suc (suc (suc (suc (suc (suc (suc zero)))))))))) join not bind = refl
+childless (suc (suc (suc (suc (suc (suc (suc (suc (suc (suc (suc k))))))))))) join not bind = refl
 
 -- ---- what stands behind a kind
 

@@ -7,6 +7,7 @@ pub mod SideLaws
 pub mod Fields
 pub mod KindLaws
 pub mod TreeLaws
+pub mod DueTrees
 pub mod TreeSteps
 pub mod WalkLaws
 pub mod Parts

@@ -12,7 +12,7 @@ use Rattle.rules.specs.Result.{given}
 use Rattle.rules.specs.Table.{most-words, count, nodes, bodies, encode, size}
 use Rattle.rules.specs.Laws.{WellFormed}
 use Rattle.rules.specs.Calls.{words, rule-of}
-use Rattle.rules.proofs.Refusals.{required}
+use Rattle.rules.proofs.Refusals.{given-inj, required}
 use Rattle.rules.proofs.Sizes.{length-nodes, count-pos}
 use Rattle.rules.proofs.Encoding.{AllGood, good-nodes}
 use Rattle.rules.proofs.Decoding.{encode-decode}
@@ -35,6 +35,14 @@ unfolding Verdict
 passed l n e h =
     let (r, d, c) = subst (Verdict (rule-of l)) e h in
     (r, record { decodes = d; counted = c })
+
+pub verdict-table : {l : List ℕ} {n : ℕ} {r : Rule} → Verdict (rule-of l) (Table n) → rule-of l ≡ given r
+    → TableOf l n r
+unfolding Verdict
+verdict-table (s, decodes, counted) e = record {
+  decodes = e;
+  counted = counted ∙ ap count (given-inj (sym decodes ∙ e));
+}
 
 module _ {l : List ℕ} {n : ℕ} {r : Rule} (t : TableOf l n r) where
   pub table-words : words l ≡ encode r

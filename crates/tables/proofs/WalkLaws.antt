@@ -1,4 +1,4 @@
--- The steps of the walk over the tree, in bytes: what is known of the root, then of its first child, then of both.
+-- The turns of the walk over the tree, in bytes: what is known of the node where a tree is due, then of its left child.
 -- Assumes nothing.
 use mathlib.Core.Path.{_≡_, sym, _∙_, ap, subst}
 use mathlib.Core.List.{List}
@@ -6,22 +6,23 @@ use Prim.Native.Nat.{ℕ, _+_, _-_, _*_, _<_, _≤_}
 use native.Mathlib.Omega.{arith}
 use lib.IntN.{ℤ, pos}
 use lib.ListN.{length, getD, take, drop, length-drop}
+use lib.Seq.{drop-drop, getD-drop}
 use Rattle.rules.specs.Calls.{signed, words}
 use Rattle.tables.specs.Reads.{widths}
 use Rattle.tables.specs.Checks.{arities, Listed, TreeAt}
 use Rattle.tables.specs.declared.check.Tree.{Tree}
 use Rattle.tables.specs.declared.check.Tree.the-variants.{Ends, Broken}
 use Rattle.tables.proofs.WordLaws.{words-from, words-length}
+use Rattle.tables.proofs.DueTrees.{Due, due-further}
 use Rattle.tables.proofs.TreeSteps.{
+  due-only,
+  due-right,
   tree-leaf,
-  tree-one,
-  tree-broken,
+  tree-left-broken,
   tree-wrong,
-  tree-right-broken,
-  tree-two,
-  listed-first,
-  listed-second,
   two-words,
+  listed-first,
+  listed-some,
   tree-fits,
 }
 
@@ -29,173 +30,147 @@ use Rattle.tables.proofs.TreeSteps.{
 abbrev pub part : List ℕ → ℕ → List ℤ
 part l p = words (take (length l - p * 4) (drop (p * 4) l))
 
-part-is : (l : List ℕ) (p q : ℕ) → p ≡ q → part l p ≡ drop q (words l)
-part-is l p q e = words-from l p ∙ ap (λ (m : ℕ). drop m (words l)) e
-
 pub part-long : (l : List ℕ) (p : ℕ) → length (part l p) ≤ length (words l)
 part-long l p = omega (arith, ap length (words-from l p), length-drop p (words l))
 
--- ---- the root: node n, the first of `left` nodes, of kind k, w words wide, with c children
+-- ---- a turn of the walk: behind m nodes and w words stands one of kind k, x words wide, with c children
 
-pub record Root (l : List ℕ) (n left k w c : ℕ) : Type 0 where
-  pub listed : Listed (words l) n left
+pub record Turn (l : List ℕ) (n left m w k x c : ℕ) : Type 0 where
+  pub due : Due (words l) n left m w
   pub low : n + left ≤ 16384
   pub most : length (words l) ≤ 16384
-  pub first : getD (words l) 0 (pos 0) ≡ signed k
-  pub some : 0 < left
+  pub some : m < left
+  pub first : getD (words l) w (pos 0) ≡ signed k
+  pub wide : x ≡ getD widths k 0
   pub children : c ≡ getD arities k 0
-  pub wide : w ≡ getD widths k 0
 
-module _ {l : List ℕ} {n left k w c : ℕ} (root : Root l n left k w c) where
-  -- the words behind the root
-  behind : part l w ≡ drop (getD widths k 0) (words l)
-  behind = part-is l w (getD widths k 0) (root .wide)
+-- its kind can be read
+pub first-word : (l : List ℕ) {n left m w : ℕ} → Due (words l) n left m w → m < left → w < length (words l)
+first-word l {n = n} {left = left} {m = m} {w = w} due some =
+    let here = listed-some (drop w (words l)) (n + m) (left - m) (due .listed) (omega arith) in
+    omega (arith, here, length-drop w (words l))
 
-  pub walk-leaf : c ≡ 0 → TreeAt (words l) n left (Ends 1 w)
+module _ {l : List ℕ} {n left m w k x c : ℕ} (turn : Turn l n left m w k x c) where
+  more : 0 < left - m
+  more = omega (arith, turn .some)
+
+  kind : getD (drop w (words l)) 0 (pos 0) ≡ signed k
+  kind = getD-drop w (words l) 0 (pos 0) ∙ ap (λ (i : ℕ). getD (words l) i (pos 0)) (omega arith) ∙ turn .first
+
+  pub walk-leaf : c ≡ 0 → TreeAt (words l) n left (Ends (m + 1) (w + x))
   walk-leaf z =
-      subst (λ (x : ℕ). TreeAt (words l) n left (Ends 1 x)) (sym (root .wide))
-      (tree-leaf (words l) n left k (root .first) (root .some) (sym (root .children) ∙ z))
+      subst (λ (y : ℕ). TreeAt (words l) n left (Ends (m + 1) (w + y))) (sym (turn .wide))
+      (turn .due .verdict (Ends 1 (getD widths k 0))
+      (tree-leaf (drop w (words l)) (n + m) (left - m) k kind more (sym (turn .children) ∙ z)))
 
-  first-listed : Listed (part l w) (n + 1) (left - 1) × (w ≤ length (words l))
-  first-listed =
-      let (f, inside) = listed-first (words l) n left k (root .first) (root .some) (root .listed) in
-      (subst (λ (bs : List ℤ). Listed bs (n + 1) (left - 1)) (sym behind) f, omega (arith, inside, root .wide))
+  pub walk-only : c ≡ 1 → Due (words l) n left (m + 1) (w + x)
+  walk-only z =
+      subst (λ (y : ℕ). Due (words l) n left (m + 1) (w + y)) (sym (turn .wide))
+      (due-further (turn .due)
+      (due-only (drop w (words l)) (n + m) (left - m) k kind more (sym (turn .children) ∙ z) (turn .due .listed)))
 
-  pub root-fits : w * 4 ≤ length l
-  root-fits = omega (arith, first-listed .1, words-length l)
+  -- the words behind this node
+  behind : part l (w + x) ≡ drop (getD widths k 0) (drop w (words l))
+  behind =
+      words-from l (w + x) ∙ ap (λ (y : ℕ). drop (w + y) (words l)) (turn .wide)
+      ∙ sym (drop-drop (getD widths k 0) w (words l))
 
-  -- what the walk over the first child asks
-  pub first-asks : Listed (part l w) (n + 1) (left - 1) × (n + 1 + (left - 1) ≤ 16384) × (length (part l w) ≤ 16384)
-  first-asks = (
-    first-listed .0,
-    omega (arith, root .low, root .some),
-    omega (arith, root .most, part-long l w),
+  below : Listed (drop (getD widths k 0) (drop w (words l))) (n + m + 1) (left - m - 1) × (w + x ≤ length (words l))
+  below =
+      let (f, inside) = listed-first (drop w (words l)) (n + m) (left - m) k kind more (turn .due .listed) in
+      (f, omega (arith, inside, turn .wide, turn .due .inside, length-drop w (words l)))
+
+  pub behind-place : w + x ≤ 16384
+  behind-place = omega (arith, below .1, turn .most)
+
+  pub behind-byte : (w + x) * 4 ≤ length l
+  behind-byte = omega (arith, below .1, words-length l)
+
+  -- what the walk over the left child asks
+  pub left-asks : Listed (part l (w + x)) (n + m + 1) (left - m - 1) × (n + m + 1 + (left - m - 1) ≤ 16384)
+      × (length (part l (w + x)) ≤ 16384)
+  left-asks = (
+    subst (λ (bs : List ℤ). Listed bs (n + m + 1) (left - m - 1)) (sym behind) (below .0),
+    omega (arith, turn .low, turn .some),
+    omega (arith, turn .most, part-long l (w + x)),
   )
 
   -- what that walk found, in words
-  found : {r s : Tree} → r ≡ s → TreeAt (part l w) (n + 1) (left - 1) r
-      → TreeAt (drop (getD widths k 0) (words l)) (n + 1) (left - 1) s
+  found : {v s : Tree} → v ≡ s → TreeAt (part l (w + x)) (n + m + 1) (left - m - 1) v
+      → TreeAt (drop (getD widths k 0) (drop w (words l))) (n + m + 1) (left - m - 1) s
   found {s = s} e t =
-      subst (λ (bs : List ℤ). TreeAt bs (n + 1) (left - 1) s) behind
-      (subst (TreeAt (part l w) (n + 1) (left - 1)) e t)
+      subst (λ (bs : List ℤ). TreeAt bs (n + m + 1) (left - m - 1) s) behind
+      (subst (TreeAt (part l (w + x)) (n + m + 1) (left - m - 1)) e t)
 
-  pub walk-broken : {r : Tree} → ¬ (c ≡ 0) → r ≡ Broken → TreeAt (part l w) (n + 1) (left - 1) r
-      → TreeAt (words l) n left r
-  walk-broken f e t =
-      let has : ¬ (getD arities k 0 ≡ 0) = λ z. f (root .children ∙ z) in
-      subst (TreeAt (words l) n left) (sym e)
-      (tree-broken (words l) n left k (root .first) (root .some) has (found e t))
+-- ---- two children
 
-  pub second-word : ¬ (c ≡ 0) → ¬ (c ≡ 1) → 1 < length (words l)
-  second-word f g =
-      two-words (words l) n left k (root .first) (root .some)
-      (λ z. f (root .children ∙ z)) (λ z. g (root .children ∙ z)) (root .listed)
-
--- ---- the first child's tree, of m nodes and q words
-
-pub record FirstChild (l : List ℕ) (n left k w c m q : ℕ) : Type 0 where
-  pub root : Root l n left k w c
-  pub tree : TreeAt (drop (getD widths k 0) (words l)) (n + 1) (left - 1) (Ends m q)
-
-pub first-found : {l : List ℕ} {n left k w c m q : ℕ} {r : Tree} → Root l n left k w c → r ≡ Ends m q
-    → TreeAt (part l w) (n + 1) (left - 1) r → FirstChild l n left k w c m q
-first-found root e t = record { root = root; tree = found root e t }
-
-module _ {l : List ℕ} {n left k w c m q : ℕ} (child : FirstChild l n left k w c m q) where
-  pub walk-one : c ≡ 1 → TreeAt (words l) n left (Ends (1 + m) (w + q))
-  walk-one z =
-      let root = child .root in
-      subst (λ (x : ℕ). TreeAt (words l) n left (Ends (1 + m) (x + q))) (sym (root .wide))
-      (tree-one (words l) n left k (root .first) (root .some) m q (sym (root .children) ∙ z) (child .tree))
-
-  pub first-fits : (m ≤ left - 1) × (w + q ≤ length (words l))
-  first-fits =
-      let root = child .root in
-      let (f, inside) = listed-first (words l) n left k (root .first) (root .some) (root .listed) in
-      let (fewer, within) =
-      tree-fits (drop (getD widths k 0) (words l)) (n + 1) (left - 1) m q f (child .tree) in
-      (fewer, omega (arith, root .wide, inside, within, length-drop (getD widths k 0) (words l)))
-
-  pub next-number : n + 1 + m ≤ 16384
-  next-number = omega (arith, child .root .low, child .root .some, first-fits .0)
-
-  pub next-place : w + q ≤ 16384
-  next-place = omega (arith, child .root .most, first-fits .1)
-
-  pub next-byte : (w + q) * 4 ≤ length l
-  next-byte = omega (arith, first-fits .1, words-length l)
-
-  -- the words behind the first child's tree
-  beyond : part l (w + q) ≡ drop (getD widths k 0 + q) (words l)
-  beyond = part-is l (w + q) (getD widths k 0 + q) (omega (arith, child .root .wide))
-
-  -- what the walk over the second child asks
-  pub second-asks : Listed (part l (w + q)) (n + 1 + m) (left - 1 - m)
-      × (n + 1 + m + (left - 1 - m) ≤ 16384) × (length (part l (w + q)) ≤ 16384)
-  second-asks =
-      let root = child .root in
-      let (f, fewer, inside) =
-      listed-second (words l) n left k (root .first) (root .some) m q (child .tree) (root .listed) in (
-        subst (λ (bs : List ℤ). Listed bs (n + 1 + m) (left - 1 - m)) (sym beyond) f,
-        omega (arith, root .low, root .some, first-fits .0),
-        omega (arith, root .most, part-long l (w + q)),
-      )
-
-  -- what that walk found, in words
-  found-second : {v s : Tree} → v ≡ s → TreeAt (part l (w + q)) (n + 1 + m) (left - 1 - m) v
-      → TreeAt (drop (getD widths k 0 + q) (words l)) (n + 1 + m) (left - 1 - m) s
-  found-second {s = s} i x =
-      subst (λ (bs : List ℤ). TreeAt bs (n + 1 + m) (left - 1 - m) s) beyond
-      (subst (TreeAt (part l (w + q)) (n + 1 + m) (left - 1 - m)) i x)
-
-  pub second-fits : {v : Tree} {o s : ℕ} → v ≡ Ends o s → TreeAt (part l (w + q)) (n + 1 + m) (left - 1 - m) v
-      → (1 + m + o ≤ 16384) × (w + q + s ≤ 16384)
-  second-fits {o = o} {s = s} i x =
-      let root = child .root in
-      let (f, fewer, inside) =
-      listed-second (words l) n left k (root .first) (root .some) m q (child .tree) (root .listed) in
-      let (less, within) =
-      tree-fits (drop (getD widths k 0 + q) (words l)) (n + 1 + m) (left - 1 - m) o s f (found-second i x) in (
-        omega (arith, root .low, root .some, first-fits .0, less),
-        omega (arith, root .wide, root .most, inside, within, length-drop (getD widths k 0 + q) (words l)),
-      )
-
--- ---- two children, where u is the number of the right one
-
-pub record TwoChildren (l : List ℕ) (n left k w c m q u : ℕ) : Type 0 where
-  pub child : FirstChild l n left k w c m q
+pub record Pair (l : List ℕ) (n left m w k x c : ℕ) : Type 0 where
+  pub turn : Turn l n left m w k x c
   pub not-leaf : ¬ (c ≡ 0)
   pub not-one : ¬ (c ≡ 1)
-  pub second : getD (words l) 1 (pos 0) ≡ signed u
 
-module _ {l : List ℕ} {n left k w c m q u : ℕ} (both : TwoChildren l n left k w c m q u) where
+module _ {l : List ℕ} {n left m w k x c : ℕ} (pair : Pair l n left m w k x c) where
   some-child : ¬ (getD arities k 0 ≡ 0)
-  some-child z = both .not-leaf (both .child .root .children ∙ z)
+  some-child z = pair .not-leaf (pair .turn .children ∙ z)
 
-  more : ¬ (getD arities k 0 ≡ 1)
-  more z = both .not-one (both .child .root .children ∙ z)
+  more-children : ¬ (getD arities k 0 ≡ 1)
+  more-children z = pair .not-one (pair .turn .children ∙ z)
 
-  pub walk-wrong : ¬ (u ≡ n + 1 + m) → TreeAt (words l) n left Broken
-  walk-wrong f =
-      let root = both .child .root in
-      let tree = both .child .tree in
-      tree-wrong (words l) n left k (root .first) (root .some) m q tree u some-child more (both .second) f
+  pub second-word : w + 1 < length (words l)
+  second-word =
+      let turn = pair .turn in
+      let here = two-words (drop w (words l)) (n + m) (left - m) k (kind turn) (more turn) some-child more-children
+      (turn .due .listed) in
+      omega (arith, here, length-drop w (words l))
 
-  pub walk-right-broken : {v : Tree} → v ≡ Broken → TreeAt (part l (w + q)) (n + 1 + m) (left - 1 - m) v
+  pub walk-broken : {v : Tree} → v ≡ Broken → TreeAt (part l (w + x)) (n + m + 1) (left - m - 1) v
       → TreeAt (words l) n left v
-  walk-right-broken i x =
-      let root = both .child .root in
-      let tree = both .child .tree in
-      subst (TreeAt (words l) n left) (sym i)
-      (tree-right-broken (words l) n left k (root .first) (root .some) m q tree u some-child more (both .second)
-      (found-second (both .child) i x))
+  walk-broken e t =
+      let turn = pair .turn in
+      subst (TreeAt (words l) n left) (sym e)
+      (turn .due .verdict Broken
+      (tree-left-broken (drop w (words l)) (n + m) (left - m) k (kind turn) (more turn) some-child more-children
+      (found turn e t)))
 
-  pub walk-two : {v : Tree} {o s : ℕ} → u ≡ n + 1 + m → v ≡ Ends o s
-      → TreeAt (part l (w + q)) (n + 1 + m) (left - 1 - m) v → TreeAt (words l) n left (Ends (1 + m + o) (w + q + s))
-  walk-two {o = o} {s = s} a i x =
-      let root = both .child .root in
-      let tree = both .child .tree in
-      let small : u < 2147483648 = omega (arith, a, next-number (both .child)) in
-      subst (λ (y : ℕ). TreeAt (words l) n left (Ends (1 + m + o) (y + q + s))) (sym (root .wide))
-      (tree-two (words l) n left k (root .first) (root .some) m q tree u some-child more (both .second) o s a small
-      (found-second (both .child) i x))
+-- ---- the left child's tree is found, of i nodes and q words, and the right child's number is u
+
+pub record LeftTree (l : List ℕ) (n left m w k x c i q u : ℕ) : Type 0 where
+  pub pair : Pair l n left m w k x c
+  pub tree : TreeAt (drop (getD widths k 0) (drop w (words l))) (n + m + 1) (left - m - 1) (Ends i q)
+  pub second : getD (words l) (w + 1) (pos 0) ≡ signed u
+
+pub left-found : {l : List ℕ} {n left m w k x c i q u : ℕ} {v : Tree} → Pair l n left m w k x c → v ≡ Ends i q
+    → TreeAt (part l (w + x)) (n + m + 1) (left - m - 1) v → getD (words l) (w + 1) (pos 0) ≡ signed u
+    → LeftTree l n left m w k x c i q u
+left-found pair e t second = record { pair = pair; tree = found (pair .turn) e t; second = second }
+
+module _ {l : List ℕ} {n left m w k x c i q u : ℕ} (left-tree : LeftTree l n left m w k x c i q u) where
+  turned : Turn l n left m w k x c
+  turned = left-tree .pair .turn
+
+  number : getD (drop w (words l)) 1 (pos 0) ≡ signed u
+  number = getD-drop w (words l) 1 (pos 0) ∙ left-tree .second
+
+  -- the right child is due within the bodies
+  pub left-fits : (m + (1 + i) ≤ left) × (w + (x + q) ≤ length (words l))
+  left-fits =
+      let bs = drop (getD widths k 0) (drop w (words l)) in
+      let (few, inside) = tree-fits bs (n + m + 1) (left - m - 1) i q (below turned .0) (left-tree .tree) in
+      let long = length-drop (getD widths k 0) (drop w (words l)) in (
+        omega (arith, few, turned .some),
+        omega (arith, inside, below turned .1, turned .wide, long, length-drop w (words l)),
+      )
+
+  pub walk-wrong : ¬ (u ≡ n + m + 1 + i) → TreeAt (words l) n left Broken
+  walk-wrong f =
+      turned .due .verdict Broken
+      (tree-wrong (drop w (words l)) (n + m) (left - m) k (kind turned) (more turned) (some-child (left-tree .pair))
+      (more-children (left-tree .pair)) i q u (left-tree .tree) number f)
+
+  pub walk-right : u ≡ n + m + 1 + i → Due (words l) n left (m + (1 + i)) (w + (x + q))
+  walk-right e =
+      let low : u < 2147483648 = omega (arith, e, left-fits .0, turned .low) in
+      subst (λ (y : ℕ). Due (words l) n left (m + (1 + i)) (w + (y + q))) (sym (turned .wide))
+      (due-further (turned .due)
+      (due-right (drop w (words l)) (n + m) (left - m) k (kind turned) (more turned) (some-child (left-tree .pair))
+      (more-children (left-tree .pair)) i q u (left-tree .tree) number e low (turned .due .listed)))

@@ -55,50 +55,56 @@ fn nodes(t: &[u8], n: usize) -> Checked
     Checked::Table(n)
 }
 
-// By kind, a digit of 4 bits each, that of kind 0 lowest: how many children a node has.
-const CHILDREN: usize = 0x01100012200;
-
+// How many children a node of this kind has: two of an and or an or, one of a not or a quantifier.
 pub fn children(kind: usize) -> usize
     ensures { λ r. ⌜ r ≡ getD arities kind 0 ⌝ }
 {
-    if kind < 11 {
-        return (CHILDREN >> (kind * 4)) % 16;
+    if kind / 2 == 1 {
+        return 2;
+    }
+    if kind == 4 {
+        return 1;
+    }
+    if kind / 2 == 4 {
+        return 1;
     }
     0
 }
 
-// The tree that starts these bodies, which are those of `left` nodes from number `node` on.
+// The tree that starts these bodies, which are those of `left` nodes from number `node` on. It ends where its last child
+// does: behind m nodes and w words exactly one more tree is due. Only a left child is walked by a call.
 fn walk(bodies: &[u8], node: usize, left: usize) -> Tree
     requires { ⌜ (Listed (words (now bodies)) node left) × (node + left ≤ 16384)
         × (length (words (now bodies)) ≤ 16384) ⌝ }
     ensures { λ r. ⌜ TreeAt (words (now (bodies .entry))) node left r ⌝ }
 {
-    if left == 0 {
-        return Tree::Broken;
+    let mut m: usize = 0;
+    let mut w: usize = 0;
+    while m < left {
+        let kind = words::natural(bodies, w);
+        let children = children(kind);
+        let width = reading::width(kind);
+        if children == 0 {
+            return Tree::Ends(m + 1, w + width);
+        }
+        if children == 1 {
+            m += 1;
+            w += width;
+            continue;
+        }
+        let right = words::natural(bodies, w + 1);
+        let behind = (w + width) * 4;
+        let first = walk(&bodies[behind..], node + m + 1, left - m - 1);
+        let Tree::Ends(k, q) = first else {
+            return first;
+        };
+        if right != node + m + 1 + k {
+            return Tree::Broken;
+        }
+        m += 1 + k;
+        w += width + q;
     }
-    let kind = words::natural(bodies, 0);
-    let children = children(kind);
-    let width = reading::width(kind);
-    if children == 0 {
-        return Tree::Ends(1, width);
-    }
-    let behind = width * 4;
-    let first = walk(&bodies[behind..], node + 1, left - 1);
-    let Tree::Ends(m, q) = first else {
-        return first;
-    };
-    if children == 1 {
-        return Tree::Ends(1 + m, width + q);
-    }
-    if words::natural(bodies, 1) != node + 1 + m {
-        return Tree::Broken;
-    }
-    let further = (width + q) * 4;
-    let second = walk(&bodies[further..], node + 1 + m, left - 1 - m);
-    let Tree::Ends(k, s) = second else {
-        return second;
-    };
-    Tree::Ends(1 + m + k, width + q + s)
+    Tree::Broken
 }
 
 // The verdict of the paper on these bytes: 1; then the nodes (2, 3); then the tree (4).

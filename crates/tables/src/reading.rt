@@ -69,8 +69,9 @@ fn has_divided(b: &[u8]) -> bool
     false
 }
 
-// By kind, a digit of 4 bits each, that of kind 0 lowest: how many words a body has. An array would be written into each
-// caller's frame.
+// By kind, a digit of 4 bits each, that of kind 0 lowest: how many words a body has. An array would be written into
+// each caller's frame. The commonest kinds go before the digits, by branches: the processor guesses those, so that
+// reading the next body need not wait for this one's kind.
 const WIDTHS: usize = 0x82299812211;
 
 // By kind, likewise: the form of what follows it (nothing, a right child, a sum, a divisor and a sum, a setting).
@@ -80,6 +81,15 @@ const FORMS: usize = 0x24433201100;
 pub fn width(kind: usize) -> usize
     ensures { λ r. ⌜ (r ≡ getD widths kind 0) × (r ≤ 9) ⌝ }
 {
+    if kind == 5 {
+        return 8;
+    }
+    if kind / 2 == 1 {
+        return 2;
+    }
+    if kind == 4 {
+        return 1;
+    }
     if kind < 11 {
         return (WIDTHS >> (kind * 4)) % 16;
     }
@@ -90,6 +100,15 @@ pub fn width(kind: usize) -> usize
 fn form(kind: usize) -> usize
     ensures { λ r. ⌜ (r ≡ getD forms kind 5) × (r ≤ 5) ⌝ }
 {
+    if kind == 5 {
+        return 2;
+    }
+    if kind / 2 == 1 {
+        return 1;
+    }
+    if kind == 4 {
+        return 0;
+    }
     if kind < 11 {
         return (FORMS >> (kind * 4)) % 16;
     }

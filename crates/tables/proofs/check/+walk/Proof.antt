@@ -1,32 +1,31 @@
--- `check::walk` meets its contract: the kind of the root says how many children's trees follow.
+-- `check::walk` meets its contract: behind m nodes and w words exactly one more tree is due.
 -- Assumes nothing.
-use Prim.Native.Nat.{ℕ, _+_, _<_, _≤_}
+use Prim.Native.Nat.{ℕ, _-_, _<_}
 use native.Mathlib.Omega.{arith}
-use Rattle.tables.proofs.TreeSteps.{listed-some, tree-none}
-use Rattle.tables.proofs.WalkLaws.{
-  Root,
-  FirstChild,
-  TwoChildren,
-  walk-leaf,
-  walk-broken,
-  walk-one,
-  walk-wrong,
-  walk-right-broken,
-  walk-two,
-  root-fits,
-  first-asks,
-  first-found,
-  first-fits,
-  next-number,
-  next-place,
-  next-byte,
-  second-word,
-  second-asks,
-  second-fits,
-}
 use borrow.Author.Needs.{needs}
 use borrow.Fn.Kinds.{In}
 use borrow.Fn.PlainCycle.{Measures, is, falls, and}
+use Rattle.rules.specs.Calls.{words}
+use Rattle.tables.specs.declared.check.Tree.the-variants.{Broken}
+use Rattle.tables.proofs.DueTrees.{Due, due-whole}
+use Rattle.tables.proofs.TreeSteps.{tree-none}
+use Rattle.tables.proofs.WalkLaws.{
+  Turn,
+  Pair,
+  LeftTree,
+  first-word,
+  walk-leaf,
+  walk-only,
+  behind-place,
+  behind-byte,
+  left-asks,
+  second-word,
+  walk-broken,
+  left-found,
+  left-fits,
+  walk-wrong,
+  walk-right,
+}
 use Rattle.tables.proofs.check.walk.Reads as walk
 use Rattle.tables.proofs.check.walk.Kinds as walk-kinds
 use Rattle.tables.proofs.check.+walk.Lts-walk as lts
@@ -49,208 +48,189 @@ below t = and 1 walk-kinds.ps (falls 1 walk-kinds.ps _<_ measure t) walk.Pre
 abbrev calls : ℕ → lts.Claims
 calls t = (natural.Asked, natural.Learnt, children.Asked, children.Learnt, width.Asked, width.Learnt, below t, walk.Post)
 
+abbrev Inv-loop : lts.InvT-loop
+Inv-loop bodies node left m₀ w₀ m w = Due (words bodies) node left m w
+
+abbrev μ-loop : lts.MeasureT-loop
+μ-loop bodies node left m₀ w₀ m w = left - m
+
 module _ (t : ℕ) where
-  -- the ways back: to the start, to where the root is read, to where the right child's number is read
-  abbrev start : lts.After-width (calls t) (at t) walk.Post → lts.Start (calls t) (at t) walk.Post
-  start c = c .before .before .before .before .before
+  -- the ways back: to the head of the loop, from there to the start, and to where two children are due
+  abbrev head : lts.After-width (calls t) (at t) walk.Post Inv-loop μ-loop
+      → lts.At-loop (calls t) (at t) walk.Post Inv-loop μ-loop
+  head c = c .before .before .before .before
 
-  abbrev root-read : lts.After-known-told (calls t) (at t) walk.Post → lts.After-width (calls t) (at t) walk.Post
-  root-read c = c .before .before .before .before .before .before
+  abbrev start : lts.At-loop (calls t) (at t) walk.Post Inv-loop μ-loop
+      → lts.Start (calls t) (at t) walk.Post Inv-loop μ-loop
+  start c = c .before .before
 
-  abbrev right-read : lts.After-known-told2 (calls t) (at t) walk.Post → lts.After-natural2 (calls t) (at t) walk.Post
-  right-read c = c .before .before .before .before .before .before
+  abbrev two-due : lts.After-walk (calls t) (at t) walk.Post Inv-loop μ-loop
+      → lts.Else2 (calls t) (at t) walk.Post Inv-loop μ-loop
+  two-due c = c .before .before .before
 
-  -- the root is read
-  root : (c : lts.After-width (calls t) (at t) walk.Post)
-      → let a = start c .args in
-      Root (a .bodies .now) (a .node) (a .left) (c .before .before .natural .result) (c .width .result)
-      (c .before .children .result)
-  root c =
-      let pre = start c .pre .1 in
+  -- the node is read
+  turn : (c : lts.After-width (calls t) (at t) walk.Post Inv-loop μ-loop)
+      → let h = head c in
+      let a = start h .args in
+      Turn (a .bodies .now) (a .node) (a .left) (h .loop .m) (h .loop .w) (c .before .before .natural .result)
+      (c .width .result) (c .before .children .result)
+  turn c =
+      let pre = start (head c) .pre .1 in
       record {
-        listed = pre .0;
+        due = head c .loop .inv;
         low = pre .1;
         most = pre .2;
+        some = c .before .before .before .loop-test .taken;
         first = c .before .before .natural .ensures .1;
-        some = omega arith;
-        children = c .before .children .ensures;
         wide = c .width .ensures .0;
+        children = c .before .children .ensures;
       }
 
-  -- the walk over the first child came to an end
-  first-child : (c : lts.After-known-told (calls t) (at t) walk.Post)
-      → let r = root-read c in
-      let a = start r .args in
+  -- it has two children
+  pair : (c : lts.Else2 (calls t) (at t) walk.Post Inv-loop μ-loop)
+      → let r = c .before .before in
+      let h = head r in
+      let a = start h .args in
+      Pair (a .bodies .now) (a .node) (a .left) (h .loop .m) (h .loop .w) (r .before .before .natural .result)
+      (r .width .result) (r .before .children .result)
+  pair c = record { turn = turn (c .before .before); not-leaf = c .before .if1 .left; not-one = c .if2 .left }
+
+  -- the left child's tree is found
+  left-tree : (c : lts.After-known-told (calls t) (at t) walk.Post Inv-loop μ-loop)
+      → let walked = c .before .before .before in
+      let r = two-due walked .before .before in
+      let h = head r in
+      let a = start h .args in
       let ends = c .before .first .given .0 in
-      FirstChild (a .bodies .now) (a .node) (a .left) (r .before .before .natural .result) (r .width .result)
-      (r .before .children .result) (ends .0) (ends .1 .0)
-  first-child c = first-found (root (root-read c)) (c .before .first .given .1) (c .before .before .before .walk .ensures)
-
-  -- two children are due, and the number of the right one is read
-  both-children : (c : lts.After-natural2 (calls t) (at t) walk.Post)
-      → let r = root-read (c .before .before) in
-      let a = start r .args in
-      let ends = c .before .before .before .first .given .0 in
-      TwoChildren (a .bodies .now) (a .node) (a .left) (r .before .before .natural .result) (r .width .result)
-      (r .before .children .result) (ends .0) (ends .1 .0) (c .natural2 .result)
-  both-children c = record {
-    child = first-child (c .before .before);
-    not-leaf = c .before .before .before .before .before .before .before .if2 .left;
-    not-one = c .before .if3 .left;
-    second = c .natural2 .ensures .1;
-  }
-
-  -- both trees fit
-  both-fit : (c : lts.After-known-told2 (calls t) (at t) walk.Post)
-      → let f = right-read c .before .before in
-      let r = root-read f in
-      let ends = f .before .first .given .0 in
-      let more = c .before .second .given .0 in
-      (1 + ends .0 + more .0 ≤ 16384) × (r .width .result + ends .1 .0 + more .1 .0 ≤ 16384)
-  both-fit c =
+      LeftTree (a .bodies .now) (a .node) (a .left) (h .loop .m) (h .loop .w) (r .before .before .natural .result)
+      (r .width .result) (r .before .children .result) (ends .0) (ends .1 .0) (walked .before .before .natural2 .result)
+  left-tree c =
       let walked = c .before .before .before in
-      second-fits (both-children (right-read c) .child) (c .before .second .given .1) (walked .walk2 .ensures)
+      left-found (pair (two-due walked)) (c .before .first .given .1) (walked .walk .ensures)
+      (walked .before .before .natural2 .ensures .1)
 
-  returns : lts.Need-returns (calls t) (at t) walk.Post
-  returns c = tree-none _ _ _ (c .if1 .taken)
+  loop-holds : lts.Need-loop-holds (calls t) (at t) walk.Post Inv-loop μ-loop
+  loop-holds c = due-whole _ _ _ (c .before .pre .1 .0)
 
-  natural-requires : lts.Need-natural-requires (calls t) (at t) walk.Post
-  natural-requires c κs = listed-some _ _ _ (c .before .before .pre .1 .0) (omega arith)
+  natural-requires : lts.Need-natural-requires (calls t) (at t) walk.Post Inv-loop μ-loop
+  natural-requires c κs = first-word _ (c .before .loop .inv) (c .loop-test .taken)
 
-  children-requires : lts.Need-children-requires (calls t) (at t) walk.Post
+  children-requires : lts.Need-children-requires (calls t) (at t) walk.Post Inv-loop μ-loop
   children-requires c κs = search needs
 
-  width-requires : lts.Need-width-requires (calls t) (at t) walk.Post
+  width-requires : lts.Need-width-requires (calls t) (at t) walk.Post Inv-loop μ-loop
   width-requires c κs = search needs
 
-  returns-2 : lts.Need-returns-2 (calls t) (at t) walk.Post
-  returns-2 c = walk-leaf (root (c .before)) (c .if2 .taken)
+  add-t15 : lts.Need-add-t15 (calls t) (at t) walk.Post Inv-loop μ-loop
+  add-t15 c = omega (arith, turn (c .before) .some)
 
-  mul-behind : lts.Need-mul-behind (calls t) (at t) walk.Post
-  mul-behind c = omega (arith, c .before .width .ensures .1)
+  add-t16 : lts.Need-add-t16 (calls t) (at t) walk.Post Inv-loop μ-loop
+  add-t16 c = omega (arith, behind-place (turn (c .before)))
 
-  sub-walk : lts.Need-sub-walk (calls t) (at t) walk.Post
-  sub-walk c = root-fits (root (c .before))
+  returns : lts.Need-returns (calls t) (at t) walk.Post Inv-loop μ-loop
+  returns c = walk-leaf (turn (c .before)) (c .if1 .taken)
 
-  part-walk-start : lts.Need-part-walk-start (calls t) (at t) walk.Post
-  part-walk-start c = root-fits (root (c .before))
+  add-m : lts.Need-add-m (calls t) (at t) walk.Post Inv-loop μ-loop
+  add-m c = omega (arith, turn (c .before .before) .some)
 
-  part-walk-end : lts.Need-part-walk-end (calls t) (at t) walk.Post
+  add-w : lts.Need-add-w (calls t) (at t) walk.Post Inv-loop μ-loop
+  add-w c = omega (arith, behind-place (turn (c .before .before)))
+
+  loop-less : lts.Need-loop-less (calls t) (at t) walk.Post Inv-loop μ-loop
+  loop-less c = omega (arith, turn (c .before .before) .some)
+
+  loop-again : lts.Need-loop-again (calls t) (at t) walk.Post Inv-loop μ-loop
+  loop-again c = walk-only (turn (c .before .before)) (c .if2 .taken)
+
+  add-natural : lts.Need-add-natural (calls t) (at t) walk.Post Inv-loop μ-loop
+  add-natural c = omega (arith, behind-place (pair c .turn))
+
+  natural-requires-2 : lts.Need-natural-requires-2 (calls t) (at t) walk.Post Inv-loop μ-loop
+  natural-requires-2 c κs = second-word (pair c)
+
+  add-behind : lts.Need-add-behind (calls t) (at t) walk.Post Inv-loop μ-loop
+  add-behind c = omega (arith, behind-place (pair (c .before) .turn))
+
+  mul-behind : lts.Need-mul-behind (calls t) (at t) walk.Post Inv-loop μ-loop
+  mul-behind c = omega (arith, behind-place (pair (c .before) .turn))
+
+  sub-walk : lts.Need-sub-walk (calls t) (at t) walk.Post Inv-loop μ-loop
+  sub-walk c = behind-byte (pair (c .before) .turn)
+
+  part-walk-start : lts.Need-part-walk-start (calls t) (at t) walk.Post Inv-loop μ-loop
+  part-walk-start c = behind-byte (pair (c .before) .turn)
+
+  part-walk-end : lts.Need-part-walk-end (calls t) (at t) walk.Post Inv-loop μ-loop
   part-walk-end c = search needs
 
-  add-walk : lts.Need-add-walk (calls t) (at t) walk.Post
-  add-walk c = omega (arith, root (c .before .before) .low)
+  add-walk : lts.Need-add-walk (calls t) (at t) walk.Post Inv-loop μ-loop
+  add-walk c = let u = pair (c .before .before) .turn in omega (arith, u .low, u .some)
 
-  sub-walk-2 : lts.Need-sub-walk-2 (calls t) (at t) walk.Post
-  sub-walk-2 c = omega arith
+  add-walk-2 : lts.Need-add-walk-2 (calls t) (at t) walk.Post Inv-loop μ-loop
+  add-walk-2 c = let u = pair (c .before .before) .turn in omega (arith, u .low, u .some)
 
-  walk-requires : lts.Need-walk-requires (calls t) (at t) walk.Post
-  walk-requires c κs = (omega arith, first-asks (root (c .before .before)))
+  sub-walk-2 : lts.Need-sub-walk-2 (calls t) (at t) walk.Post Inv-loop μ-loop
+  sub-walk-2 c = let u = pair (c .before .before) .turn in omega (arith, u .low, u .some)
 
-  enum-known-first : lts.Need-enum-known-first (calls t) (at t) walk.Post
+  sub-walk-3 : lts.Need-sub-walk-3 (calls t) (at t) walk.Post Inv-loop μ-loop
+  sub-walk-3 c = let u = pair (c .before .before) .turn in omega (arith, u .low, u .some)
+
+  walk-requires : lts.Need-walk-requires (calls t) (at t) walk.Post Inv-loop μ-loop
+  walk-requires c κs =
+      let u = pair (c .before .before) .turn in
+      let counted = start (head (c .before .before .before .before)) .pre .0 in
+      (omega (arith, counted, u .some), left-asks u)
+
+  enum-known-first : lts.Need-enum-known-first (calls t) (at t) walk.Post Inv-loop μ-loop
   enum-known-first c = search needs
 
-  enum-told : lts.Need-enum-told (calls t) (at t) walk.Post
+  enum-told : lts.Need-enum-told (calls t) (at t) walk.Post Inv-loop μ-loop
   enum-told c = search needs
 
-  returns-3 : lts.Need-returns-3 (calls t) (at t) walk.Post
-  returns-3 c =
+  returns-2 : lts.Need-returns-2 (calls t) (at t) walk.Post Inv-loop μ-loop
+  returns-2 c =
       let walked = c .before .before in
-      let inner = walked .before .before in
-      walk-broken (root (inner .before)) (inner .if2 .left) (c .enum-told .given .1) (walked .walk .ensures)
+      walk-broken (pair (two-due walked)) (c .enum-told .given .1) (walked .walk .ensures)
 
-  add-t22 : lts.Need-add-t22 (calls t) (at t) walk.Post
-  add-t22 c = omega (arith, next-number (first-child (c .before)))
+  add-if3 : lts.Need-add-if3 (calls t) (at t) walk.Post Inv-loop μ-loop
+  add-if3 c = let f = left-tree c in omega (arith, left-fits f .0, f .pair .turn .low)
 
-  add-t23 : lts.Need-add-t23 (calls t) (at t) walk.Post
-  add-t23 c = omega (arith, next-place (first-child (c .before)))
+  add-if3-2 : lts.Need-add-if3-2 (calls t) (at t) walk.Post Inv-loop μ-loop
+  add-if3-2 c = let f = left-tree c in omega (arith, left-fits f .0, f .pair .turn .low)
 
-  returns-4 : lts.Need-returns-4 (calls t) (at t) walk.Post
-  returns-4 c = walk-one (first-child (c .before)) (c .if3 .taken)
+  add-if3-3 : lts.Need-add-if3-3 (calls t) (at t) walk.Post Inv-loop μ-loop
+  add-if3-3 c = let f = left-tree c in omega (arith, left-fits f .0, f .pair .turn .low)
 
-  natural-requires-2 : lts.Need-natural-requires-2 (calls t) (at t) walk.Post
-  natural-requires-2 c κs =
-      let inner = c .before .before .before .before .before .before in
-      second-word (root (inner .before)) (inner .if2 .left) (c .if3 .left)
+  returns-3 : lts.Need-returns-3 (calls t) (at t) walk.Post Inv-loop μ-loop
+  returns-3 c = walk-wrong (left-tree (c .before)) (c .if3 .taken)
 
-  add-if4 : lts.Need-add-if4 (calls t) (at t) walk.Post
-  add-if4 c = omega (arith, next-number (first-child (c .before .before)))
+  add-m-2 : lts.Need-add-m-2 (calls t) (at t) walk.Post Inv-loop μ-loop
+  add-m-2 c = let f = left-tree (c .before) in omega (arith, left-fits f .0, f .pair .turn .low)
 
-  add-if4-2 : lts.Need-add-if4-2 (calls t) (at t) walk.Post
-  add-if4-2 c = omega (arith, next-number (first-child (c .before .before)))
+  add-m-3 : lts.Need-add-m-3 (calls t) (at t) walk.Post Inv-loop μ-loop
+  add-m-3 c = let f = left-tree (c .before) in omega (arith, left-fits f .0, f .pair .turn .low)
 
-  returns-5 : lts.Need-returns-5 (calls t) (at t) walk.Post
-  returns-5 c = walk-wrong (both-children (c .before)) (c .if4 .taken)
+  add-w-2 : lts.Need-add-w-2 (calls t) (at t) walk.Post Inv-loop μ-loop
+  add-w-2 c = let f = left-tree (c .before) in omega (arith, left-fits f .1, f .pair .turn .most)
 
-  add-further : lts.Need-add-further (calls t) (at t) walk.Post
-  add-further c = omega (arith, next-place (both-children (c .before) .child))
+  add-w-3 : lts.Need-add-w-3 (calls t) (at t) walk.Post Inv-loop μ-loop
+  add-w-3 c = let f = left-tree (c .before) in omega (arith, left-fits f .1, f .pair .turn .most)
 
-  mul-further : lts.Need-mul-further (calls t) (at t) walk.Post
-  mul-further c = omega (arith, next-place (both-children (c .before) .child))
+  loop-less-2 : lts.Need-loop-less-2 (calls t) (at t) walk.Post Inv-loop μ-loop
+  loop-less-2 c = let f = left-tree (c .before) in omega (arith, left-fits f .0)
 
-  sub-walk-3 : lts.Need-sub-walk-3 (calls t) (at t) walk.Post
-  sub-walk-3 c = next-byte (both-children (c .before) .child)
+  loop-again-2 : lts.Need-loop-again-2 (calls t) (at t) walk.Post Inv-loop μ-loop
+  loop-again-2 c = walk-right (left-tree (c .before)) (c .if3 .left)
 
-  part-walk-start-2 : lts.Need-part-walk-start-2 (calls t) (at t) walk.Post
-  part-walk-start-2 c = next-byte (both-children (c .before) .child)
-
-  part-walk-end-2 : lts.Need-part-walk-end-2 (calls t) (at t) walk.Post
-  part-walk-end-2 c = search needs
-
-  add-walk-2 : lts.Need-add-walk-2 (calls t) (at t) walk.Post
-  add-walk-2 c = omega (arith, next-number (both-children (c .before .before) .child))
-
-  add-walk-3 : lts.Need-add-walk-3 (calls t) (at t) walk.Post
-  add-walk-3 c = omega (arith, next-number (both-children (c .before .before) .child))
-
-  sub-walk-4 : lts.Need-sub-walk-4 (calls t) (at t) walk.Post
-  sub-walk-4 c = omega arith
-
-  sub-walk-5 : lts.Need-sub-walk-5 (calls t) (at t) walk.Post
-  sub-walk-5 c = first-fits (both-children (c .before .before) .child) .0
-
-  walk-requires-2 : lts.Need-walk-requires-2 (calls t) (at t) walk.Post
-  walk-requires-2 c κs =
-      let counted = start (root-read (c .before .before .before .before)) .pre .0 in
-      (omega (arith, counted), second-asks (both-children (c .before .before) .child))
-
-  enum-known-second : lts.Need-enum-known-second (calls t) (at t) walk.Post
-  enum-known-second c = search needs
-
-  enum-told-2 : lts.Need-enum-told-2 (calls t) (at t) walk.Post
-  enum-told-2 c = search needs
-
-  returns-6 : lts.Need-returns-6 (calls t) (at t) walk.Post
-  returns-6 c =
-      let walked = c .before .before in
-      let both = both-children (walked .before .before .before) in
-      walk-right-broken both (c .enum-told2 .given .1) (walked .walk2 .ensures)
-
-  add-t17 : lts.Need-add-t17 (calls t) (at t) walk.Post
-  add-t17 c = omega (arith, both-fit c .0)
-
-  add-t28 : lts.Need-add-t28 (calls t) (at t) walk.Post
-  add-t28 c = omega (arith, both-fit c .0)
-
-  add-t27 : lts.Need-add-t27 (calls t) (at t) walk.Post
-  add-t27 c = omega (arith, both-fit c .1)
-
-  add-t20 : lts.Need-add-t20 (calls t) (at t) walk.Post
-  add-t20 c = omega (arith, both-fit c .1)
-
-  returns-7 : lts.Need-returns-7 (calls t) (at t) walk.Post
-  returns-7 c =
-      let walked = c .before .before .before in
-      let right = walked .before .before .if4 .left in
-      walk-two (both-children (right-read c)) right (c .before .second .given .1) (walked .walk2 .ensures)
+  returns-4 : lts.Need-returns-4 (calls t) (at t) walk.Post Inv-loop μ-loop
+  returns-4 c = c .before .loop .inv .verdict Broken (tree-none _ _ _ (omega arith))
 
 pub +walk-spec : {M : Type 1} → statement M
 +walk-spec = close measure λ t.
-    lts.spec (calls t) (at t) walk.Post
-    (returns t) (natural-requires t) (children-requires t) (width-requires t) (returns-2 t) (mul-behind t)
-    (sub-walk t) (part-walk-start t) (part-walk-end t) (add-walk t) (sub-walk-2 t) (walk-requires t)
-    (enum-known-first t) (enum-told t) (returns-3 t) (add-t22 t) (add-t23 t) (returns-4 t) (natural-requires-2 t)
-    (add-if4 t) (add-if4-2 t) (returns-5 t) (add-further t) (mul-further t) (sub-walk-3 t) (part-walk-start-2 t)
-    (part-walk-end-2 t) (add-walk-2 t) (add-walk-3 t) (sub-walk-4 t) (sub-walk-5 t) (walk-requires-2 t)
-    (enum-known-second t) (enum-told-2 t) (returns-6 t) (add-t17 t) (add-t28 t) (add-t27 t) (add-t20 t)
-    (returns-7 t)
+    lts.spec (calls t) (at t) walk.Post Inv-loop μ-loop
+    (loop-holds t) (natural-requires t) (children-requires t) (width-requires t) (add-t15 t) (add-t16 t) (returns t)
+    (add-m t) (add-w t) (loop-less t) (loop-again t) (add-natural t) (natural-requires-2 t) (add-behind t)
+    (mul-behind t) (sub-walk t) (part-walk-start t) (part-walk-end t) (add-walk t) (add-walk-2 t) (sub-walk-2 t)
+    (sub-walk-3 t) (walk-requires t) (enum-known-first t) (enum-told t) (returns-2 t) (add-if3 t) (add-if3-2 t)
+    (add-if3-3 t) (returns-3 t) (add-m-2 t) (add-m-3 t) (add-w-2 t) (add-w-3 t) (loop-less-2 t) (loop-again-2 t)
+    (returns-4 t)

@@ -1,25 +1,25 @@
--- `check::children` meets its contract: a kind below 11 has its children in the number, and no other kind has any.
+-- `check::children` meets its contract: three tests name the kinds that have children.
 -- Assumes nothing.
-use native.Mathlib.Omega.{arith}
+use mathlib.Core.Path.{_≡_, refl}
+use Prim.Native.Nat.{ℕ}
+use lib.ListN.{getD}
 use Rattle.tables.specs.Checks.{arities}
-use Rattle.tables.proofs.KindLaws.{found, missing}
+use Rattle.tables.proofs.KindLaws.{of-half, childless}
 use borrow.Author.Needs.{needs}
 use Rattle.tables.proofs.check.children.Statement.{statement}
 use Rattle.tables.proofs.check.children.Tie as tie
-use Rattle.tables.proofs.check.children.Reads as reads
-use Rattle.tables.proofs.check.children.Lts as lts
-
-mul-result : tie.Need-mul-result
-mul-result c = search needs
-
-shr-result : tie.Need-shr-result
-shr-result c = search needs
 
 returns : tie.Need-returns
-returns c = found 73014518272 2 0 arities tt _ (c .if1 .taken) .0
+returns c = of-half (λ (k : ℕ). 2 ≡ getD arities k 0) 1 _ (c .if1 .taken) refl refl
 
 returns-2 : tie.Need-returns-2
-returns-2 c = missing 2 0 arities (omega arith) _ (c .if1 .left) .0
+returns-2 c = search needs
+
+returns-3 : tie.Need-returns-3
+returns-3 c = of-half (λ (k : ℕ). 1 ≡ getD arities k 0) 4 _ (c .if3 .taken) refl refl
+
+returns-4 : tie.Need-returns-4
+returns-4 c = childless _ (c .before .before .if1 .left) (c .before .if2 .left) (c .if3 .left)
 
 pub children-spec : {M : Type 1} → statement M
-children-spec = tie.close (tie.spec mul-result shr-result returns returns-2)
+children-spec = tie.close (tie.spec returns returns-2 returns-3 returns-4)
