@@ -1,4 +1,3 @@
-pub mod ZeroLaws
 pub mod LeafLaws
 pub mod ChainLaws
 pub mod DownLaws

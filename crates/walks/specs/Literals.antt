@@ -11,27 +11,22 @@ use Rattle.rules.specs.Sum.{Sum, limit, all-within}
 use Rattle.rules.specs.Rule.{Test}
 use Rattle.rules.specs.Literals.{some-literal}
 use Rattle.rules.specs.Eliminate.{over-limit}
-use Rattle.tables.proofs.Inversion.{test-kind}
+use Rattle.rules.specs.Laws.{DivisorOf}
 use Rattle.builder.specs.Built.{Countable}
 use Rattle.builder.specs.declared.push.State.{State}
-use Rattle.literals.specs.Literal.{LiteralAt}
+use Rattle.literals.specs.Literal.{Marked, LiteralAt}
 use Rattle.literals.specs.Changes.{becomes, Usable, changed-sum, changed-test, divisor-or-none}
 use Rattle.literals.specs.declared.change.Change.{Change}
 
--- the test has this kind, and this divisor, 0 where it has none
-pub record Told (kind k : ℕ) (t : Test) : Type 0 where
-  pub same-kind : kind ≡ test-kind t
-  pub same-divisor : k ≡ divisor-or-none t
-
--- some test has them, and the divisor is not over the limit
-pub record SomeTold (kind k : ℕ) : Type 0 where
+-- some test has this kind and, where it has a divisor, this one, which is not over the limit
+pub record SomeMarked (kind k : ℕ) : Type 0 where
   pub test : Test
-  pub told : Told kind k test
-  pub small : k ≤ limit
+  pub marked : Marked kind k test
+  pub small : DivisorOf (λ d. d ≤ limit) test
 
 -- what putting a literal asks: seven words, and that they, a divisor and a kind can be counted
 pub record Puttable (kind k : ℕ) (s : Sum) (b : State) : Type 0 where
-  pub some : SomeTold kind k
+  pub some : SomeMarked kind k
   pub seven : length s ≡ 7
   pub countable : Countable b 9
 

@@ -8,14 +8,15 @@ ghost use mathlib.Core.Path.{_≡_};
 ghost use mathlib.Core.List.{List};
 ghost use lib.ListN.{length};
 ghost use Rattle.rules.specs.Sum.{no-factors};
-ghost use Rattle.rules.specs.Rule.{Test};
+ghost use Rattle.rules.specs.Rule.{Test, passes};
 ghost use Rattle.rules.specs.Table.{Node};
 ghost use Rattle.rules.specs.Fold.{fold-literal};
 ghost use Rattle.rules.specs.Calls.{words};
 ghost use Rattle.rules.proofs.Folding.{settles as settles-of};
-ghost use Rattle.builder.specs.Built.{Built, Countable};
+ghost use Rattle.builder.specs.Built.{Built};
 ghost use Rattle.folding.specs.Answers.{Gives};
-ghost use Rattle.literals.specs.Literal.{Marked, SomeTest};
+ghost use Rattle.literals.specs.Literal.{Marked};
+ghost use Rattle.walks.specs.Literals.{SomeMarked, Puttable};
 
 // Whether the a's, which are the words behind c, are all zero.
 fn no_factors(sum: &[i32]) -> bool
@@ -46,15 +47,32 @@ fn settles(kind: usize, k: usize, sum: &[i32]) -> bool
     k == 1
 }
 
+// What the test of this kind, with this divisor, says of c. 0 divides 0 alone: a change that no step makes could scale a
+// divisor to 0.
+fn truth(kind: usize, k: usize, c: i32) -> bool
+    requires { ⌜ SomeMarked kind k ⌝ }
+    ensures { λ r. ⌜ ((t : Test) → Marked kind k t → r ≡ passes t c) ⌝ }
+{
+    if k != 0 {
+        return literal::passes(kind, k, c as i64);
+    }
+    if kind == 6 {
+        return c == 0;
+    }
+    if kind == 7 {
+        return c != 0;
+    }
+    literal::passes(kind, k, c as i64)
+}
+
 // "A literal whose a's are all zero becomes its truth value. Divisor 1 makes kind 6 true and kind 7 false."
 pub fn put(kind: usize, k: usize, sum: &[i32], out: &mut [u8], b: State) -> Folded
-    requires { ⌜ SomeTest kind k × (length (now sum) ≡ 7) × Countable b 9 ⌝ }
+    requires { ⌜ Puttable kind k (now sum) b ⌝ }
     ensures { λ r. ⌜ ((t : Test) (ds : List Node) → Marked kind k t → Built (words (now (out .entry))) b ds
         → Gives (words (now (out .exit))) b ds (fold-literal t (now (sum .entry))) r) ⌝ }
 {
     if settles(kind, k, sum) {
-        let c = front::at(sum, 0);
-        return Folded::Known(literal::passes(kind, k, c as i64));
+        return Folded::Known(truth(kind, k, front::at(sum, 0)));
     }
     if kind == 5 {
         return Folded::Pushed(push::compared(out, b, false, sum));

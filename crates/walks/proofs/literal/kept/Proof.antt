@@ -2,7 +2,7 @@
 -- Assumes nothing.
 use native.Mathlib.Omega.{arith}
 use Rattle.literals.proofs.Literals.{literal-long}
-use Rattle.walks.proofs.LeafLaws.{some-literal-kept, puttable, gives-changed, told}
+use Rattle.walks.proofs.LeafLaws.{some-literal-kept, puttable, gives-changed, marked}
 use borrow.Author.Needs.{needs}
 use Rattle.walks.proofs.literal.kept.Statement.{statement}
 use Rattle.walks.proofs.literal.kept.Tie as tie
@@ -16,11 +16,11 @@ divisor-requires c κs = search needs
 sum-requires : tie.Need-sum-requires
 sum-requires c κs = search needs
 
-slice-aggregate-folded : tie.Need-slice-aggregate-folded
-slice-aggregate-folded c = search needs
+slice-aggregate-put : tie.Need-slice-aggregate-put
+slice-aggregate-put c = search needs
 
-folded-requires : tie.Need-folded-requires
-folded-requires c κs =
+put-requires : tie.Need-put-requires
+put-requires c κs =
     let sum = c .before .before in
     let divisor = sum .before in
     let kind = divisor .before in
@@ -39,7 +39,7 @@ returns c = λ n t s ds l built.
     let kind = divisor .before in
     let change = kind .before .before .before .args .change in
     gives-changed _ _ ds _ _ (sum .sum .ensures n t s l)
-    (put .folded .ensures _ ds (told change l (kind .natural .ensures .1) (divisor .divisor .ensures n t s l)) built)
+    (put .put .ensures _ ds (marked change l (kind .natural .ensures .1) (divisor .divisor .ensures n t s l)) built)
 
 pub kept-spec : {M : Type 1} → statement M
 kept-spec =
@@ -48,7 +48,7 @@ kept-spec =
     natural-requires
     divisor-requires
     sum-requires
-    slice-aggregate-folded
-    folded-requires
+    slice-aggregate-put
+    put-requires
     same-length
     returns)

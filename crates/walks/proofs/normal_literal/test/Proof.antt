@@ -10,6 +10,7 @@ use Rattle.rules.specs.Sum.{Sum}
 use Rattle.rules.specs.Rule.{Test}
 use Rattle.rules.specs.Calls.{words}
 use Rattle.walks.specs.Sums.{raise, SumAt, SomeSum, TestAt}
+use Rattle.walks.proofs.PutLaws.{some-marked}
 use Rattle.walks.proofs.SumLaws.{some-sum-at, sum-at, turned-long, sum-words, test-over, test-made}
 use Rattle.walks.proofs.normal_literal.test.Statement.{statement}
 use Rattle.walks.proofs.normal_literal.test.Tie as tie
@@ -67,8 +68,14 @@ factor-requires-7 c κs =
 slice-aggregate-put : tie.Need-slice-aggregate-put
 slice-aggregate-put c = search needs
 
+-- the way back to the start
+abbrev start : tie.After-factor7 → tie.Start
+start c = c .before .before .before .before .before .before .before .before .before .before .before .before .before
+
 put-requires : tie.Need-put-requires
-put-requires c κs = search needs
+put-requires c κs =
+    let there = start (c .before .before) .pre .0 .there in
+    search (needs, some-marked (there .marked) (there .fair))
 
 same-length : tie.Need-same-length
 same-length c = search needs

@@ -2,11 +2,7 @@
 -- Assumes nothing.
 use native.Mathlib.Omega.{arith}
 use borrow.Author.Needs.{needs, sfits-of}
-use mir.Syntax.{w32}
-use mir.Val.{SFits}
-use Rattle.literals.proofs.Sizes.{wide-fits}
-use Rattle.literals.proofs.Tests.{divisor-fair}
-use Rattle.walks.proofs.PutLaws.{c-small, gives-value, gives-literal, node-is}
+use Rattle.walks.proofs.PutLaws.{divisor-small, gives-value, gives-literal, node-is}
 use Rattle.walks.proofs.PutLaws.{positive-kind, zero-kind, divisor-kind}
 use Rattle.walks.proofs.put.put.Statement.{statement}
 use Rattle.walks.proofs.put.put.Tie as tie
@@ -17,21 +13,15 @@ settles-requires c κs = search needs
 at-requires : tie.Need-at-requires
 at-requires c κs = search needs
 
-got : (c : tie.After-at) → SFits w32 (c .at .result)
-got c = sfits-of (c .at .ok)
-
-cast-passes : tie.Need-cast-passes
-cast-passes c = wide-fits (got c)
-
-passes-requires : tie.Need-passes-requires
-passes-requires c κs = (c .before .before .before .before .pre .0, c-small (got c))
+truth-requires : tie.Need-truth-requires
+truth-requires c κs = search needs
 
 returns : tie.Need-returns
 returns c t ds m h =
     let read = c .before in
     let settled = read .before in
-    gives-value _ _ ds _ t (got read) (read .at .ensures) (settled .if1 .taken)
-    (settled .before .settles .ensures t m) (c .passes .ensures t m) h
+    gives-value _ _ ds _ t (sfits-of (read .at .ok)) (read .at .ensures) (settled .if1 .taken)
+    (settled .before .settles .ensures t m) (c .truth .ensures t m) h
 
 compared-requires : tie.Need-compared-requires
 compared-requires c κs = search needs
@@ -65,10 +55,10 @@ divided-requires : tie.Need-divided-requires
 divided-requires c κs =
     let kind = c .before in
     let pre = kind .before .before .before .before .before .pre in
-    let seven = pre .1 in
-    let room = pre .2 in
-    let fair = divisor-fair (kind .before .if2 .left) (kind .if3 .left) (pre .0) in
-    (record { words = omega (arith, room .words); nodes = room .nodes }, fair .1)
+    let room = pre .countable in (
+      record { words = omega (arith, pre .seven, room .words); nodes = room .nodes },
+      divisor-small (pre .some) (kind .before .if2 .left) (kind .if3 .left),
+    )
 
 same-length-3 : tie.Need-same-length-3
 same-length-3 c = search needs
@@ -87,8 +77,7 @@ put-spec =
     (tie.spec
     settles-requires
     at-requires
-    cast-passes
-    passes-requires
+    truth-requires
     returns
     compared-requires
     same-length

@@ -1,9 +1,9 @@
--- `literal::truth` meets its contract: a divisor 0 is seen before any division.
+-- `put::truth` meets its contract: a divisor 0 is seen before any division.
 -- Assumes nothing.
 use Rattle.literals.proofs.Sizes.{wide-fits}
-use Rattle.walks.proofs.LeafLaws.{some-divisor, some-other, wide-below, passes-is, zero-passes, zero-fails}
-use Rattle.walks.proofs.literal.truth.Statement.{statement}
-use Rattle.walks.proofs.literal.truth.Tie as tie
+use Rattle.walks.proofs.PutLaws.{some-divisor, some-other, wide-below, passes-is, zero-passes, zero-fails}
+use Rattle.walks.proofs.put.truth.Statement.{statement}
+use Rattle.walks.proofs.put.truth.Tie as tie
 
 cast-passes : tie.Need-cast-passes
 cast-passes c = wide-fits (c .before .fits .c)
