@@ -1,20 +1,21 @@
 -- How many literals, and so how many bounds, a rule can have whose table has at most 16,384 words.
 -- Assumes nothing.
-use mathlib.Core.Path.{ap}
+use mathlib.Core.Path.{_∙_, ap}
 use mathlib.Core.List.{List, [], _∷_}
 use Prim.Native.Nat.{ℕ, _+_, _*_, _/_, _≤_}
 use native.Mathlib.Omega.{arith}
-use lib.IntN.{pos}
+use lib.IntN.{ℤ, pos}
 use lib.ListN.{length, length-append}
 use Rattle.whole.specs.Integers.{eqZ}
 use Rattle.whole.proofs.Tests.{cond-ind}
 use Rattle.rules.specs.Sum.{Sum, factor, negate, put}
 use Rattle.rules.specs.Rule.{Test, positive, divisible, is-zero, Rule, Constant, Join, Not, Literal, Bind}
-use Rattle.rules.specs.Table.{most-words, count}
+use Rattle.rules.specs.Table.{most-words, count, nodes, bodies}
 use Rattle.rules.specs.Steps.{bound-of}
 use Rattle.rules.specs.Literals.{gather}
 use Rattle.rules.specs.Laws.{Each, WellFormed}
-use Rattle.rules.proofs.Sizes.{before-sum, weight}
+use Rattle.rules.proofs.Sizes.{before-sum, weight, length-bodies, weight-is}
+use Rattle.bodies.specs.Body.{SomeBody, RoomForBounds}
 use Rattle.bodies.specs.Cursor.{literals-of, across}
 use Rattle.bodies.proofs.CursorLaws.{gather-across}
 
@@ -71,3 +72,11 @@ pub few-bounds : (x : ℕ) (a : Rule) → WellFormed a → count a + weight a + 
 few-bounds x a w h =
     let all = ap length (gather-across (bound-of x) a) in
     omega (arith, all, bounds-across x (literals-of a), count-literals a, weight-literals a w, h)
+
+-- ten words a bound, where only the bodies are known
+pub room-for-all : (bs : List ℤ) (end x : ℕ) → SomeBody bs end → RoomForBounds bs end x 1638
+room-for-all bs end x some n a b =
+    let bounds = ap length (gather-across (bound-of x) a) in
+    let words = ap length (b .bodied .begins) ∙ length-append (bodies n (nodes a)) (b .bodied .after)
+    ∙ ap (λ (m : ℕ). m + length (b .bodied .after)) (length-bodies n (nodes a) ∙ weight-is a) in
+    omega (arith, bounds, bounds-across x (literals-of a), weight-literals a (b .formed), words, some .few)

@@ -1,8 +1,8 @@
 -- The bounds that are kept, by the places of their literals: when two are the same, and what one more makes of them.
 -- Assumes nothing.
 use mathlib.Core.Path.{_≡_, refl, sym, _∙_, ap, subst}
-use mathlib.Core.Bool.{Bool, true, false, cond}
-use mathlib.Core.List.{List, [], _∷_, _++_, append-nil}
+use mathlib.Core.Bool.{Bool, true, false, not, cond}
+use mathlib.Core.List.{List, [], _∷_, _++_}
 use Prim.Native.Nat.{ℕ, _+_, _-_, _<_, _≤_}
 use native.Mathlib.Decide.{ℕ-discrete}
 use native.Mathlib.Omega.{arith}
@@ -14,23 +14,20 @@ use Rattle.whole.specs.Integers.{eqZ}
 use Rattle.whole.proofs.Difference.{zz, z2}
 use Rattle.whole.proofs.Tests.{cond-ind, eqZ→eq}
 use Rattle.rules.specs.Sum.{Sum, factor, negate, put}
-use Rattle.rules.specs.Rule.{Test, positive, divisible, is-zero, Rule, Whether}
-use Rattle.rules.specs.Steps.{bound-of, once, bounds}
-use Rattle.rules.specs.Table.{literal-node}
-use Rattle.rules.specs.Literals.{gather}
+use Rattle.rules.specs.Rule.{Test, positive, divisible, is-zero, Whether}
+use Rattle.rules.specs.Steps.{bound-of, once}
 use Rattle.rules.specs.Laws.{InTable}
 use Rattle.rules.specs.Calls.{signed}
 use Rattle.rules.proofs.Sizes.{before-sum, words}
 use Rattle.rules.proofs.Sums.{factor-put-other, factor-scale}
 use Rattle.tables.proofs.WordLaws.{number-of, natural-unique}
 use Rattle.tables.proofs.Inversion.{BodyAt}
-use Rattle.bodies.specs.Body.{SomeBody, BoundAt, BoundsAt, RoomForBounds}
-use Rattle.bodies.specs.Cursor.{literals-of, across, LiteralAt}
-use Rattle.bodies.specs.Bounds.{Alike, GivesBound, SomeKept}
+use Rattle.bodies.specs.Body.{BoundAt, BoundsAt}
+use Rattle.bodies.specs.Cursor.{LiteralAt}
+use Rattle.bodies.specs.Bounds.{Alike, Unless, OfLiteral, GivesBound}
+use Rattle.bodies.specs.declared.bound.Bound.{Bound}
 use Rattle.bodies.proofs.LiteralWords.{kind-word, sum-word}
-use Rattle.bodies.proofs.CursorLaws.{node-inside, across-append, gather-across}
-use Rattle.bodies.proofs.ScanLaws.{Passed, Scanned, here}
-use Rattle.bodies.proofs.OnceLaws.{In, at-in, in-at, once-there, once-new, length-once}
+use Rattle.bodies.proofs.OnceLaws.{In, at-in, in-at, once-there, once-new}
 
 -- ---- which literal gives a bound
 
@@ -103,13 +100,6 @@ module _ {bs : List ℤ} {x p : ℕ} {u : Sum} (b : BoundAt bs x p u) where
       ap (factor j) (b .bound-is) ∙ factor-scale j (negsuc 0) (put x (pos 0) (b .sum))
       ∙ ap (λ z. negsuc 0 *ℤ z) (factor-put-other j x (pos 0) (b .sum) f)
 
-  pub bound-there : p + 8 ≤ length bs
-  unfolding words before-sum
-  bound-there =
-      let at = b .stands in
-      let inside = node-inside bs p (literal-node positive (b .sum)) (b .node) (at .after) (at .begins) in
-      omega (arith, inside, b .formed .0)
-
 minus-same : (a b : ℤ) → negsuc 0 *ℤ a ≡ negsuc 0 *ℤ b → a ≡ b
 minus-same = z2 _ (simp zz (omega arith))
 
@@ -161,19 +151,15 @@ module _ (bs : List ℤ) (p q n : ℕ) (u v : ℕ) (e : getD bs (p + n) (pos 0) 
   pub not-alike : u < 4294967296 → v < 4294967296 → ¬ (u ≡ v) → 1 ≤ n → n < 8 → ¬ Alike bs p q
   not-alike h k other l m all = other (natural-unique u v h k (sym e ∙ all n l m ∙ f))
 
--- what a test that answers r has said
-pub said : {r : Bool} (A : Type 0) → r ≡ true → Whether r A → A
-said A e w = subst (λ (b : Bool). Whether b A) e w
+pub unless-not : (A : Type 0) (r : Bool) → Whether r A → Unless (not r) A
+unless-not A true a = a
+unless-not A false f = f
 
-pub denied : {r : Bool} (A : Type 0) → r ≡ false → Whether r A → ¬ A
-denied A e w = subst (λ (b : Bool). Whether b A) e w
-
-pub none-more : (P : ℕ → Type 0) (n : ℕ) → ((i : ℕ) → i < n → ¬ P i) → ¬ P n → (i : ℕ) → i < n + 1 → ¬ P i
-none-more P n none this i h q = by (ℕ-discrete i n)
-  where
-    by : Dec (i ≡ n) → ⊥
-    by (yes e) = this (subst P e q)
-    by (no f) = none i (omega (arith, h, f)) q
+pub other-constants : {bs : List ℤ} {a b : Bound} → OfLiteral bs a → OfLiteral bs b → ¬ (a .constant ≡ b .constant)
+    → ¬ Alike bs (a .place) (b .place)
+other-constants {bs} {a} {b} of-a of-b other =
+    not-alike bs (a .place) (b .place) 1 (a .constant) (b .constant) (of-a .constant-is) (of-b .constant-is)
+    (of-a .fits) (of-b .fits) other (omega arith) (omega arith)
 
 module _ {bs : List ℤ} {x : ℕ} {places : List ℕ} {k p : ℕ} {us : List Sum} {u : Sum}
     (h : BoundsAt bs x places k us) (b : BoundAt bs x p u) where
@@ -226,15 +212,6 @@ module _ (x : ℕ) (t : Test) (s : Sum) (g : GivesBound x t s true) where
     bound-is = refl;
   }
 
--- a literal that gives none
-pub kept-none : {bs : List ℤ} {x : ℕ} {places : List ℕ} {k : ℕ} (t : Test) (s : Sum) (found : List Sum)
-    → GivesBound x t s false → BoundsAt bs x places k (once found)
-    → BoundsAt bs x places k (once (found ++ bound-of x t s))
-unfolding GivesBound
-kept-none {bs} {x} {places} {k} t s found g h =
-    subst (λ (l : List Sum). BoundsAt bs x places k (once l))
-    (sym (ap (λ (l : List Sum). found ++ l) g ∙ append-nil found)) h
-
 module _ {bs : List ℤ} {x p end k : ℕ} {places : List ℕ} {t : Test} {s : Sum} {ls : List (Test × Sum)}
     (g : GivesBound x t s true) (l : LiteralAt bs p end t s ls) (found : List Sum)
     (h : BoundsAt bs x places k (once found)) where
@@ -262,54 +239,5 @@ module _ {bs : List ℤ} {x p end k : ℕ} {places : List ℕ} {t : Test} {s : S
       subst (BoundsAt bs x (set places k p) (k + 1)) (sym (ap once grown ∙ once-new u found (not-in h b other)))
       (held-more h b room)
 
-pub kept-room : {bs : List ℤ} {x p : ℕ} {places : List ℕ} {k : ℕ} (m : SomeKept bs x p places k)
-    → GivesBound x (m .literal .test) (m .literal .sum) true → k < length places
-kept-room {x = x} m g = omega (arith, m .room, ap length (the-bound x (m .literal .test) (m .literal .sum) g))
-
--- ---- the loop over the literals
-
--- the first k places give what the literals ks give, each once
-abbrev pub Kept : List ℤ → ℕ → List ℕ → ℕ → Passed
-Kept bs x places k ks = BoundsAt bs x places k (once (across (bound-of x) ks))
-
-pub kept-start : (bs : List ℤ) (x : ℕ) (places : List ℕ) → Kept bs x places 0 []
-unfolding across once
-kept-start bs x places =
-    record { as-many = refl; held = omega arith; each = λ i h. absurd (omega (arith, h)) }
-
-pub kept-step : {bs : List ℤ} {x : ℕ} {places : List ℕ} {k : ℕ} (t : Test) (s : Sum) (ks : List (Test × Sum))
-    → BoundsAt bs x places k (once (across (bound-of x) ks ++ bound-of x t s))
-    → Kept bs x places k (ks ++ ((t, s) ∷ []))
-unfolding across
-kept-step {bs} {x} {places} {k} t s ks h =
-    subst (λ (l : List Sum). BoundsAt bs x places k (once l))
-    (sym (across-append (bound-of x) ks ((t, s) ∷ [])
-    ∙ ap (λ (l : List Sum). across (bound-of x) ks ++ l) (append-nil (bound-of x t s)))) h
-
-pub kept-over : {bs : List ℤ} {x : ℕ} {places : List ℕ} {k : ℕ} (a : Rule) → Kept bs x places k (literals-of a)
-    → BoundsAt bs x places k (bounds x a)
-unfolding bounds
-kept-over {bs} {x} {places} {k} a h =
-    subst (λ (l : List Sum). BoundsAt bs x places k (once l)) (sym (gather-across (bound-of x) a)) h
-
--- there is room for one more, since there is for all that the literals give
-pub kept-asks : {bs : List ℤ} {p end x : ℕ} {places : List ℕ} {k : ℕ} → Scanned bs p end (Kept bs x places k) → p < end
-    → SomeBody bs end → (room : ℕ) → length places ≡ room → RoomForBounds bs end x room → SomeKept bs x p places k
-unfolding across
-kept-asks {bs} {p} {end} {x} {places} {k} s more b room same enough =
-    let h = here bs p end (Kept bs x places k) (b .rule) more (s (b .number) (b .rule) (b .body)) in
-    let found : List Sum = across (bound-of x) (h .done) in
-    let this : List Sum = bound-of x (h .test) (h .sum) in
-    let left : List Sum = across (bound-of x) (h .left) in
-    let all = gather-across (bound-of x) (b .rule) ∙ ap (across (bound-of x)) (h .whole)
-    ∙ across-append (bound-of x) (h .done) ((h .test, h .sum) ∷ h .left) in
-    let long : length (gather (bound-of x) (b .rule)) ≡ length found + (length this + length left) =
-    ap length all ∙ length-append found (this ++ left)
-    ∙ ap (λ (n : ℕ). length found + n) (length-append this left) in
-    record {
-      end = end;
-      literal = record { test = h .test; sum = h .sum; others = h .left; at = h .at; few = b .few };
-      found = found;
-      held = h .so-far;
-      room = omega (arith, h .so-far .as-many, length-once found, long, same, enough (b .number) (b .rule) (b .body));
-    }
+pub one-given : (x : ℕ) (t : Test) (s : Sum) → GivesBound x t s true → length (bound-of x t s) ≡ 1
+one-given x t s g = ap length (the-bound x t s g)

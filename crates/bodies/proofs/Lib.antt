@@ -11,3 +11,9 @@ pub mod MultipleLaws
 pub mod OnceLaws
 pub mod BoundLaws
 pub mod BoundCount
+pub mod LowerLaws
+pub mod KeptLaws
+pub mod BoundRow
+pub mod WalkSteps
+pub mod LentAgain
+pub mod LocalArray

@@ -2,29 +2,91 @@
 -- Assumes nothing.
 use mathlib.Core.Path.{_≡_}
 use mathlib.Core.Bool.{Bool, true, false}
-use mathlib.Core.List.{List, []}
+use mathlib.Core.List.{List, [], _∷_, _++_}
 use Prim.Native.Nat.{ℕ, _+_, _<_, _≤_}
 use lib.IntN.{ℤ, pos}
-use lib.ListN.{length, getD}
+use lib.ListN.{length, getD, set}
 use Rattle.rules.specs.Sum.{Sum, factor}
 use Rattle.rules.specs.Rule.{Test, positive}
 use Rattle.rules.specs.Steps.{bound-of, once}
+use Rattle.rules.specs.Calls.{signed}
 use Rattle.bodies.specs.Body.{BoundsAt}
-use Rattle.bodies.specs.Cursor.{SomeLiteral}
+use Rattle.bodies.specs.Cursor.{across, Next, SomeLiteral}
+use Rattle.bodies.specs.declared.bound.Bound.{Bound}
 
--- the same seven words stand behind the words at two places
-abbrev pub Alike : List ℤ → ℕ → ℕ → Type 0
-Alike bs p q = (i : ℕ) → 1 ≤ i → i < 8 → getD bs (p + i) (pos 0) ≡ getD bs (q + i) (pos 0)
+-- ---- the literals that give a bound
 
 -- a literal is 0 < x+r; or it gives no bound
 unfoldable pub GivesBound : ℕ → Test → Sum → Bool → Type 0
 GivesBound x t s true = (t ≡ positive) × (factor x s ≡ pos 1)
 GivesBound x t s false = bound-of x t s ≡ []
 
--- a literal stands at place p, the first k of the places give the bounds found before, and there is room for its own
-pub record SomeKept (bs : List ℤ) (x p : ℕ) (places : List ℕ) (k : ℕ) : Type 0 where
+-- p is the place of the first of the literals `left`; of the literals ls those before give no bound
+pub record Reached (bs : List ℤ) (x p end : ℕ) (ls : List (Test × Sum)) : Type 0 where
+  pub passed : List (Test × Sum)
+  pub left : List (Test × Sum)
+  pub whole : ls ≡ passed ++ left
+  pub without : across (bound-of x) passed ≡ []
+  pub next : Next bs p end left
+
+unfoldable pub FirstGives : ℕ → List (Test × Sum) → Type 0
+FirstGives x [] = Unit
+FirstGives x (l ∷ ls) = GivesBound x (l .0) (l .1) true
+
+-- p is the place of the first of the literals ls that gives a bound, or the end where none does
+pub record NextLower (bs : List ℤ) (x p end : ℕ) (ls : List (Test × Sum)) : Type 0 where
+  pub reached : Reached bs x p end ls
+  pub gives : FirstGives x (reached .left)
+
+-- ---- a bound
+
+-- the same seven words stand behind the words at two places
+abbrev pub Alike : List ℤ → ℕ → ℕ → Type 0
+Alike bs p q = (i : ℕ) → 1 ≤ i → i < 8 → getD bs (p + i) (pos 0) ≡ getD bs (q + i) (pos 0)
+
+-- the opposite of A, or A
+abbrev pub Unless : Bool → Type 0 → Type 0
+Unless true A = ¬ A
+Unless false A = A
+
+-- at its place is room for a literal, whose constant it has
+pub record OfLiteral (bs : List ℤ) (b : Bound) : Type 0 where
+  pub inside : b .place + 8 ≤ length bs
+  pub fits : b .constant < 4294967296
+  pub constant-is : getD bs (b .place + 1) (pos 0) ≡ signed (b .constant)
+
+-- what stands past a list's end
+abbrev pub none : Bound
+none = record { place = 0; constant = 0 }
+
+-- r is the first place of b in a list, at or before k
+abbrev pub First : List ℤ → List Bound → ℕ → Bound → ℕ → Type 0
+First bs bounds k b r =
+    (r ≤ k) × Alike bs (getD bounds r none .place) (b .place)
+    × ((j : ℕ) → j < r → ¬ Alike bs (getD bounds j none .place) (b .place))
+
+-- ---- the bounds that are kept
+
+-- the place p stands behind the first k, unless i is one of them
+abbrev pub Noted : List ℕ → ℕ → ℕ → ℕ → List ℕ → ℕ → Type 0
+Noted places p i k new r =
+    ((i < k) → (r ≡ k) × (new ≡ places)) × ((i ≡ k) → (r ≡ k + 1) × (new ≡ set places k p))
+
+-- the first k give the bounds us, and so do their places
+pub record Kept (bs : List ℤ) (x : ℕ) (bounds : List Bound) (places : List ℕ) (k : ℕ) (us : List Sum) : Type 0 where
+  pub at : BoundsAt bs x places k us
+  pub held : k ≤ length bounds
+  pub place-is : (i : ℕ) → i < k → getD bounds i none .place ≡ getD places i 0
+  pub each : (i : ℕ) → i < k → OfLiteral bs (getD bounds i none)
+
+-- a literal that gives a bound stands at place p, the first k give the bounds found before, and there is room for its
+-- own
+pub record SomeKept (bs : List ℤ) (p : ℕ) (bounds : List Bound) (places : List ℕ) (k : ℕ) : Type 0 where
+  pub setting : ℕ
   pub end : ℕ
   pub literal : SomeLiteral bs p end
+  pub gives : GivesBound setting (literal .test) (literal .sum) true
   pub found : List Sum
-  pub held : BoundsAt bs x places k (once found)
-  pub room : k + length (bound-of x (literal .test) (literal .sum)) ≤ length places
+  pub kept : Kept bs setting bounds places k (once found)
+  pub room : k < length bounds
+  pub room-for-place : k < length places

@@ -66,6 +66,11 @@ pub record SomeRemaining (bs : List ℤ) (p end : ℕ) : Type 0 where
   pub remaining : Remaining bs p end literals
   pub few : length bs ≤ most-words
 
+pub record SomeNext (bs : List ℤ) (p end : ℕ) : Type 0 where
+  pub literals : List (Test × Sum)
+  pub next : Next bs p end literals
+  pub few : length bs ≤ most-words
+
 pub record SomeLiteral (bs : List ℤ) (p end : ℕ) : Type 0 where
   pub test : Test
   pub sum : Sum

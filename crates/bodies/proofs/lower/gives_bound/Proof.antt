@@ -1,10 +1,10 @@
--- `bounds::gives_bound` meets its contract: kind 5 is 0 < T, and the word read is the factor of x.
+-- `lower::gives_bound` meets its contract: kind 5 is 0 < T, and the word read is the factor of x.
 -- Assumes nothing.
 use native.Mathlib.Omega.{arith}
 use Rattle.bodies.proofs.CursorLaws.{literal-eight}
 use Rattle.bodies.proofs.BoundLaws.{gives-none, gives-factor}
-use Rattle.bodies.proofs.bounds.gives_bound.Statement.{statement}
-use Rattle.bodies.proofs.bounds.gives_bound.Tie as tie
+use Rattle.bodies.proofs.lower.gives_bound.Statement.{statement}
+use Rattle.bodies.proofs.lower.gives_bound.Tie as tie
 
 natural-requires : tie.Need-natural-requires
 natural-requires c κs = omega (arith, literal-eight (c .before .pre .0 .1 .at))

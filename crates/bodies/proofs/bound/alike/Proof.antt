@@ -1,11 +1,11 @@
--- `bounds::alike` meets its contract: the words looked at so far are the same.
+-- `bound::alike` meets its contract: the words looked at so far are the same.
 -- Assumes nothing.
 use Prim.Native.Nat.{_-_, _≤_}
 use native.Mathlib.Omega.{arith}
 use Rattle.rules.specs.Calls.{words}
 use Rattle.bodies.proofs.BoundLaws.{AlikeTo, alike-more, not-alike}
-use Rattle.bodies.proofs.bounds.alike.Statement.{statement}
-use Rattle.bodies.proofs.bounds.alike.Tie as tie
+use Rattle.bodies.proofs.bound.alike.Statement.{statement}
+use Rattle.bodies.proofs.bound.alike.Tie as tie
 
 abbrev Inv-loop : tie.InvT-loop
 Inv-loop bodies p q i₀ i = (1 ≤ i) × (i ≤ 8) × AlikeTo (words bodies) p q i
