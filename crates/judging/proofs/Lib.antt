@@ -1,0 +1,12 @@
+pub mod BitLaws
+pub mod CombLaws
+pub mod ProductLaws
+pub mod MaskLaws
+pub mod SaidLaws
+pub mod ShiftLaws
+pub mod FactorLaws
+pub mod NotLaws
+pub mod LiteralLaws
+pub mod WalkLaws
+pub mod JudgeLaws
+pub mod SpineLaws

@@ -1,0 +1,250 @@
+-- T at x = w + k, word by word, from w − x.
+-- Assumes nothing.
+use mathlib.Core.Path.{_≡_, refl, sym, ap, ap₂, _∙_, subst}
+use mathlib.Core.Bool.{Bool, true, false, cond}
+use mathlib.Core.List.{[], _∷_}
+use Prim.Native.Nat.{ℕ, zero, suc, _+_, _≤_}
+use native.Mathlib.Omega.{arith}
+use borrow.Author.Tests.{eq-eqb, ne-eqb}
+use lib.Dec.{T, eqb, eqb→eq, le→leb}
+use lib.IntN.{ℤ, pos, negsuc, natAbs, _+ℤ_, _-ℤ_, _*ℤ_}
+use lib.ListN.{length, getD}
+use mir.Syntax.{w64}
+use mir.Val.{SFits, toZ}
+use mir.Facts.{toZ-ofZ, toZ-pos}
+use Rattle.whole.specs.Integers.{within}
+use Rattle.whole.proofs.Tests.{T-and}
+use Rattle.whole.proofs.Difference.{zz, z1, z3}
+use Rattle.whole.proofs.Ring.{rr, r2, r4, ring}
+use Rattle.rules.specs.Sum.{Sum, factor, add, scale, negate, put, number, setting, limit, all-within}
+use Rattle.rules.specs.Steps.{sum-at}
+use Rattle.rules.specs.Eliminate.{most-period}
+use Rattle.rules.proofs.Sums.{factor-put, factor-put-other, factor-scale, factor-add, number-factor}
+use Rattle.rules.proofs.Sums.{length-scale, length-add, length-put}
+use Rattle.literals.proofs.Sizes.{read, again, size-add, fits-size}
+use Rattle.literals.proofs.Terms.{within-at, listed}
+use Rattle.judging.specs.Shifts.{less, most-shift}
+use Rattle.judging.proofs.ProductLaws.{size-less}
+
+-- ---- the words of w − x
+
+put-at : (i x : ℕ) (a : ℤ) (s : Sum) → factor i (put x a s) ≡ cond (eqb i x) a (factor i s)
+put-at i x a s = by (eqb i x) refl
+  where
+    by : (b : Bool) → eqb i x ≡ b → factor i (put x a s) ≡ cond b a (factor i s)
+    by true e = ap (λ (v : ℕ). factor i (put v a s)) (sym (eqb→eq i x (subst T (sym e) tt))) ∙ factor-put i a s
+    by false e = factor-put-other i x a s (λ p. absurd (subst T (sym (eq-eqb i x p) ∙ e) tt))
+
+-- what is taken away at word i
+abbrev one-at : ℕ → ℕ → ℤ
+one-at x i = cond (eqb i x) (negsuc 0) (pos 0)
+
+zero-number : (i : ℕ) → factor i (number (pos 0)) ≡ pos 0
+zero-number zero = refl
+zero-number (suc i) = number-factor (suc i) (pos 0) (omega arith)
+
+less-word : (x i : ℕ) (w : Sum) → factor i (less x w) ≡ factor i w +ℤ one-at x i
+unfolding less negate setting
+less-word x i w =
+    factor-add i w (scale (negsuc 0) (put x (pos 1) (number (pos 0))))
+    ∙ ap (λ (z : ℤ). factor i w +ℤ z)
+    (factor-scale i (negsuc 0) (put x (pos 1) (number (pos 0)))
+    ∙ ap (λ (z : ℤ). negsuc 0 *ℤ z) (put-at i x (pos 1) (number (pos 0)) ∙ ap (cond (eqb i x) (pos 1)) (zero-number i))
+    ∙ by (eqb i x))
+  where
+    by : (b : Bool) → negsuc 0 *ℤ cond b (pos 1) (pos 0) ≡ cond b (negsuc 0) (pos 0)
+    by true = refl
+    by false = refl
+
+module _ (x : ℕ) (w : Sum) (seven : length w ≡ 7) (low : x ≤ 6) where
+  pub less-seven : length (less x w) ≡ 7
+  unfolding less negate setting
+  less-seven =
+      let one = length-put x (pos 1) (number (pos 0)) (omega arith) in
+      let turned = length-scale (negsuc 0) (put x (pos 1) (number (pos 0))) ∙ one in
+      length-add w (scale (negsuc 0) (put x (pos 1) (number (pos 0)))) (seven ∙ sym turned) ∙ turned
+
+-- ---- T + f·(w − x)
+
+nothing-more : (z : ℤ) → z +ℤ pos 0 ≡ z
+nothing-more = z1 _ (simp zz (omega arith))
+
+module _ (x k : ℕ) (w s : Sum) where
+  -- word i of w + k
+  further : (i : ℕ) → 1 ≤ i → factor i (add w (number (pos k))) ≡ factor i w
+  further i h =
+      factor-add i w (number (pos k)) ∙ ap (λ (z : ℤ). factor i w +ℤ z) (number-factor i (pos k) h)
+      ∙ nothing-more (factor i w)
+
+  at-word : (i : ℕ) → factor i (sum-at x (add w (number (pos k))) s)
+      ≡ cond (eqb i x) (pos 0) (factor i s) +ℤ factor x s *ℤ factor i (add w (number (pos k)))
+  unfolding sum-at
+  at-word i =
+      factor-add i (put x (pos 0) s) (scale (factor x s) (add w (number (pos k))))
+      ∙ ap₂ _+ℤ_ (put-at i x (pos 0) s) (factor-scale i (factor x s) (add w (number (pos k))))
+
+  pub factor-moved : (i : ℕ) → 1 ≤ i → factor i (sum-at x (add w (number (pos k))) s)
+      ≡ factor i s +ℤ factor x s *ℤ factor i (less x w)
+  factor-moved i h =
+      at-word i ∙ ap (λ (z : ℤ). cond (eqb i x) (pos 0) (factor i s) +ℤ factor x s *ℤ z) (further i h)
+      ∙ by (eqb i x) refl ∙ ap (λ (z : ℤ). factor i s +ℤ factor x s *ℤ z) (sym (less-word x i w))
+    where
+      taken : (f a : ℤ) → pos 0 +ℤ f *ℤ a ≡ f +ℤ f *ℤ (a +ℤ negsuc 0)
+      taken = r2 _ (simp rr (ring refl))
+
+      by : (b : Bool) → eqb i x ≡ b → cond b (pos 0) (factor i s) +ℤ factor x s *ℤ factor i w
+          ≡ factor i s +ℤ factor x s *ℤ (factor i w +ℤ cond b (negsuc 0) (pos 0))
+      by true e =
+          let same = eqb→eq i x (subst T (sym e) tt) in
+          taken (factor x s) (factor i w)
+          ∙ ap (λ (v : ℕ). factor v s +ℤ factor x s *ℤ (factor i w +ℤ negsuc 0)) (sym same)
+      by false e = ap (λ (z : ℤ). factor i s +ℤ factor x s *ℤ z) (sym (nothing-more (factor i w)))
+
+  -- c, which moves with k
+  pub number-moved : 1 ≤ x → factor 0 (sum-at x (add w (number (pos k))) s)
+      ≡ factor 0 s +ℤ factor x s *ℤ factor 0 (less x w) +ℤ factor x s *ℤ pos k
+  number-moved h =
+      at-word 0
+      ∙ ap (λ (b : Bool). cond b (pos 0) (factor 0 s) +ℤ factor x s *ℤ factor 0 (add w (number (pos k)))) apart
+      ∙ ap (λ (z : ℤ). factor 0 s +ℤ factor x s *ℤ z) (factor-add 0 w (number (pos k)))
+      ∙ law (factor 0 s) (factor x s) (factor 0 w) (pos k)
+      ∙ ap (λ (z : ℤ). factor 0 s +ℤ factor x s *ℤ z +ℤ factor x s *ℤ pos k) (sym zeroth)
+    where
+      apart : eqb 0 x ≡ false
+      apart = ne-eqb 0 x (λ e. omega arith)
+
+      zeroth : factor 0 (less x w) ≡ factor 0 w
+      zeroth =
+          less-word x 0 w ∙ ap (λ (b : Bool). factor 0 w +ℤ cond b (negsuc 0) (pos 0)) apart ∙ nothing-more (factor 0 w)
+
+      law : (a f w k : ℤ) → a +ℤ f *ℤ (w +ℤ k) ≡ a +ℤ f *ℤ w +ℤ f *ℤ k
+      law = r4 _ (simp rr (ring refl))
+
+  pub moved-seven : length w ≡ 7 → length s ≡ 7 → x ≤ 6 → length (sum-at x (add w (number (pos k))) s) ≡ 7
+  unfolding sum-at
+  moved-seven seven long low =
+      let further-seven = length-add w (number (pos k)) seven in
+      let scaled = length-scale (factor x s) (add w (number (pos k))) ∙ further-seven in
+      length-add (put x (pos 0) s) (scale (factor x s) (add w (number (pos k))))
+      (length-put x (pos 0) s (omega arith) ∙ long ∙ sym scaled) ∙ scaled
+
+-- ---- u + j, and k more
+
+pub add-twice : (u : Sum) (j k : ℕ) → length u ≡ 7
+    → add (add u (number (pos j))) (number (pos k)) ≡ add u (number (pos (j + k)))
+add-twice u j k e =
+    subst (λ (l : Sum). add (add l (number (pos j))) (number (pos k)) ≡ add l (number (pos (j + k)))) (sym (listed u e))
+    (by (getD u 0 (pos 0)) (getD u 1 (pos 0)) (getD u 2 (pos 0)) (getD u 3 (pos 0)) (getD u 4 (pos 0))
+    (getD u 5 (pos 0)) (getD u 6 (pos 0)))
+  where
+    law : (c j k : ℤ) → c +ℤ j +ℤ k ≡ c +ℤ (j +ℤ k)
+    law = z3 _ (simp zz (omega arith))
+
+    none : (z : ℤ) → z +ℤ pos 0 +ℤ pos 0 ≡ z +ℤ pos 0
+    none z = nothing-more (z +ℤ pos 0)
+
+    by : (c a1 a2 a3 a4 a5 a6 : ℤ)
+        → add (add (c ∷ a1 ∷ a2 ∷ a3 ∷ a4 ∷ a5 ∷ a6 ∷ []) (number (pos j))) (number (pos k))
+        ≡ add (c ∷ a1 ∷ a2 ∷ a3 ∷ a4 ∷ a5 ∷ a6 ∷ []) (number (pos (j + k)))
+    by c a1 a2 a3 a4 a5 a6 = unfold add in
+        ap₂ _∷_ (law c (pos j) (pos k)) (ap₂ _∷_ (none a1) (ap₂ _∷_ (none a2) (ap₂ _∷_ (none a3)
+        (ap₂ _∷_ (none a4) (ap₂ _∷_ (none a5) (ap₂ _∷_ (none a6) refl))))))
+
+-- ---- the words of u + j − x, as they are computed
+
+module _ (u : Sum) (j x i : ℕ) (limited : T (all-within limit u)) (upto : j ≤ most-period) {a : ℤ} (fa : SFits w64 a)
+    (e : a ≡ getD u i (pos 0)) where
+  size : natAbs a ≤ limit
+  size = rw e (within-at limit u i limited)
+
+  word-is : factor i (less x (add u (number (pos j)))) ≡ a +ℤ factor i (number (pos j)) +ℤ one-at x i
+  word-is =
+      less-word x i (add u (number (pos j)))
+      ∙ ap (λ (z : ℤ). z +ℤ one-at x i)
+      (factor-add i u (number (pos j)) ∙ ap (λ (z : ℤ). z +ℤ factor i (number (pos j))) (sym e))
+
+  first-fits : SFits w64 (a +ℤ pos j)
+  first-fits = fits-size w64 (a +ℤ pos j) (omega (arith, size, size-add a (pos j)))
+
+  first-read : read a +ℤ toZ w64 j ≡ a +ℤ pos j
+  first-read = ap₂ _+ℤ_ (toZ-ofZ fa) (toZ-pos w64 (omega arith))
+
+  pub first-asks : SFits w64 (read a +ℤ toZ w64 j)
+  first-asks = subst (SFits w64) (sym first-read) first-fits
+
+  pub first-is : 1 ≤ x → i ≡ 0 → (read (read a +ℤ toZ w64 j) ≡ getD (less x (add u (number (pos j)))) i (pos 0))
+      × (natAbs (read (read a +ℤ toZ w64 j)) ≤ most-shift)
+  first-is h z =
+      let is = ap read first-read ∙ toZ-ofZ first-fits in (
+        is ∙ sym (word-is ∙ law z),
+        omega (arith, ap natAbs is, size, size-add a (pos j)),
+      )
+    where
+      law : i ≡ 0 → a +ℤ factor i (number (pos j)) +ℤ one-at x i ≡ a +ℤ pos j
+      law z =
+          ap₂ (λ (n : ℕ) (b : Bool). a +ℤ factor n (number (pos j)) +ℤ cond b (negsuc 0) (pos 0)) z
+          (ne-eqb i x (λ p. omega arith))
+          ∙ nothing-more (a +ℤ pos j)
+
+  minus-fits : SFits w64 (a -ℤ pos 1)
+  minus-fits = fits-size w64 (a -ℤ pos 1) (omega (arith, size, size-less a (pos 1)))
+
+  minus-read : read a -ℤ pos 1 ≡ a -ℤ pos 1
+  minus-read = ap (λ (z : ℤ). z -ℤ pos 1) (toZ-ofZ fa)
+
+  pub minus-asks : SFits w64 (read a -ℤ pos 1)
+  minus-asks = subst (SFits w64) (sym minus-read) minus-fits
+
+  none-of-number : ¬ (i ≡ 0) → factor i (number (pos j)) ≡ pos 0
+  none-of-number n = number-factor i (pos j) (some i n)
+    where
+      some : (i : ℕ) → ¬ (i ≡ 0) → 1 ≤ i
+      some i n = omega arith
+
+  pub setting-is : ¬ (i ≡ 0) → i ≡ x → (read (read a -ℤ pos 1) ≡ getD (less x (add u (number (pos j)))) i (pos 0))
+      × (natAbs (read (read a -ℤ pos 1)) ≤ most-shift)
+  setting-is n p =
+      let is = ap read minus-read ∙ toZ-ofZ minus-fits in (
+        is ∙ sym (word-is
+            ∙ ap₂ (λ (z : ℤ) (b : Bool). a +ℤ z +ℤ cond b (negsuc 0) (pos 0)) (none-of-number n) (eq-eqb i x p)
+            ∙ ap (λ (z : ℤ). z +ℤ negsuc 0) (nothing-more a)),
+        omega (arith, ap natAbs is, size, size-less a (pos 1)),
+      )
+
+  pub other-is : ¬ (i ≡ 0) → ¬ (i ≡ x) → (read a ≡ getD (less x (add u (number (pos j)))) i (pos 0))
+      × (natAbs (read a) ≤ most-shift)
+  other-is n p = (
+    toZ-ofZ fa ∙ sym (word-is ∙ ap₂ (λ (z : ℤ) (b : Bool). a +ℤ z +ℤ cond b (negsuc 0) (pos 0)) (none-of-number n)
+        (ne-eqb i x p) ∙ nothing-more (a +ℤ pos 0) ∙ nothing-more a),
+    omega (arith, ap natAbs (toZ-ofZ fa), size),
+  )
+
+-- ---- the seven, as an array holds them
+
+pub seven-are : {z : Sum} → length z ≡ 7 → {a b c d e f g : ℤ}
+    → SFits w64 a → SFits w64 b → SFits w64 c → SFits w64 d → SFits w64 e → SFits w64 f → SFits w64 g
+    → a ≡ getD z 0 (pos 0) → b ≡ getD z 1 (pos 0) → c ≡ getD z 2 (pos 0) → d ≡ getD z 3 (pos 0)
+    → e ≡ getD z 4 (pos 0) → f ≡ getD z 5 (pos 0) → g ≡ getD z 6 (pos 0)
+    → (read a ∷ read b ∷ read c ∷ read d ∷ read e ∷ read f ∷ read g ∷ []) ≡ z
+seven-are {z} seven fa fb fc fd fe ff fg pa pb pc pd pe pf pg =
+    ap₂ _∷_ (toZ-ofZ fa ∙ pa) (ap₂ _∷_ (toZ-ofZ fb ∙ pb) (ap₂ _∷_ (toZ-ofZ fc ∙ pc) (ap₂ _∷_ (toZ-ofZ fd ∙ pd)
+    (ap₂ _∷_ (toZ-ofZ fe ∙ pe) (ap₂ _∷_ (toZ-ofZ ff ∙ pf) (ap₂ _∷_ (toZ-ofZ fg ∙ pg) refl))))))
+    ∙ sym (listed z seven)
+
+within-more : (n : ℕ) (z : ℤ) (zs : Sum) → SFits w64 z → natAbs z ≤ n → T (all-within n zs)
+    → T (all-within n (read z ∷ zs))
+unfolding all-within
+within-more n z zs f h t =
+    T-and (within n (read z)) (all-within n zs) .1 (le→leb (natAbs (read z)) n (again w64 f h), t)
+
+pub seven-within : {n : ℕ} {a b c d e f g : ℤ}
+    → SFits w64 a → SFits w64 b → SFits w64 c → SFits w64 d → SFits w64 e → SFits w64 f → SFits w64 g
+    → natAbs a ≤ n → natAbs b ≤ n → natAbs c ≤ n → natAbs d ≤ n → natAbs e ≤ n → natAbs f ≤ n → natAbs g ≤ n
+    → T (all-within n (read a ∷ read b ∷ read c ∷ read d ∷ read e ∷ read f ∷ read g ∷ []))
+seven-within {n} {a} {b} {c} {d} {e} {f} {g} fa fb fc fd fe ff fg pa pb pc pd pe pf pg =
+    let none : T (all-within n []) = unfold all-within in tt in
+    within-more n a _ fa pa (within-more n b _ fb pb (within-more n c _ fc pc (within-more n d _ fd pd
+    (within-more n e _ fe pe (within-more n f _ ff pf (within-more n g _ fg pg none))))))
+
+pub within-word : {n : ℕ} (v : Sum) (i : ℕ) {b : ℤ} → T (all-within n v) → b ≡ getD v i (pos 0) → natAbs b ≤ n
+within-word {n} v i t e = rw e (within-at n v i t)

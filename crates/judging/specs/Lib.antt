@@ -1,0 +1,4 @@
+pub mod Judging
+pub mod Masks
+pub mod Shifts
+pub mod Walks
