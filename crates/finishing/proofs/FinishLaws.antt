@@ -25,7 +25,7 @@ unfolding Near
 AllNear [] = Unit {0}
 AllNear (d ∷ ds) = Near d × AllNear ds
 
-near-nodes : (r : Rule) (ds : List Node) → count r ≤ most-words → AllNear ds → AllNear (nodes r ++ ds)
+pub near-nodes : (r : Rule) (ds : List Node) → count r ≤ most-words → AllNear ds → AllNear (nodes r ++ ds)
 unfolding AllNear nodes count
 near-nodes (Constant b) ds l h = (tt, h)
 near-nodes (Join j a b) ds l h =
@@ -60,7 +60,7 @@ pub record SomeDone (ws ts : List ℤ) (n i from to : ℕ) (ds : List Node) : Ty
 
 -- ---- at first
 
-first-word : (ts : List ℤ) (n : ℕ) → 0 < length ts → take (n + 1) (set ts 0 (pos n)) ≡ pos n ∷ take n (drop 1 ts)
+pub first-word : (ts : List ℤ) (n : ℕ) → 0 < length ts → take (n + 1) (set ts 0 (pos n)) ≡ pos n ∷ take n (drop 1 ts)
 first-word [] n h = absurd (omega arith)
 first-word (t ∷ ts) n h = ap (λ (m : ℕ). take m (pos n ∷ ts)) (let next : n + 1 ≡ suc n = omega arith in next)
 
@@ -127,9 +127,11 @@ put-next p (a ∷ l) v m e h = set-at p a l v m e
 
 module _ {ws ts : List ℤ} {n i from to : ℕ} where
   next-placeable : (done : List Node) (d : Node) (rest : List Node) → Halfway ws ts n i from to done (d ∷ rest)
-      → Placeable ws from i ts to d
+      → Placeable ws from i ts i to d
   unfolding unplaced total AllGood AllNear
   next-placeable done d rest h = record {
+    number = 0;
+    shifted = omega arith;
     after = unplaced rest;
     begins = h .here;
     good = h .good .0;
@@ -199,7 +201,7 @@ module _ {ws ts : List ℤ} {n i from to : ℕ} where
     opened =
         subst (Halfway ws ts n i from to (s .done)) (some-left (s .done) (s .left) (s .halfway) more .2) (s .halfway)
 
-    pub placeable : Placeable ws from i ts to next
+    pub placeable : Placeable ws from i ts i to next
     placeable = next-placeable (s .done) next rest opened
 
     pub more-done : (vs : List ℤ) (w : ℕ) → length vs ≡ length ts → Placed ts vs i to w next
@@ -219,7 +221,7 @@ none-free : (l : List ℤ) → length l ≡ 0 → l ≡ []
 none-free [] e = refl
 none-free (a ∷ l) e = absurd (omega arith)
 
-table-is : (n : ℕ) (ds : List Node) → length ds ≡ n → pos n ∷ starts (n + 1) ds ++ bodies 0 ds ≡ table ds
+pub table-is : (n : ℕ) (ds : List Node) → length ds ≡ n → pos n ∷ starts (n + 1) ds ++ bodies 0 ds ≡ table ds
 unfolding table
 table-is n ds e = ap (λ (m : ℕ). pos m ∷ starts (m + 1) ds ++ bodies 0 ds) (sym e)
 

@@ -17,7 +17,7 @@ use Rattle.rules.specs.Rule.{and, or, positive, divisible, is-zero, for-some, f
 use Rattle.rules.specs.Table.{Node, constant-node, join-node, not-node, literal-node, bind-node}
 use Rattle.rules.specs.Table.{most-words, body, width}
 use Rattle.rules.specs.Calls.{signed}
-use Rattle.rules.proofs.Sizes.{words-pos}
+use Rattle.rules.proofs.Sizes.{length-body, words-pos}
 use Rattle.tables.specs.Reads.{widths, kind-of}
 use Rattle.tables.proofs.WordLaws.{number-of}
 use Rattle.tables.proofs.Standings.{width-is}
@@ -33,21 +33,20 @@ put-is ts vs p n h e = e ∙ ap (set ts p) (toZ-ofZ (number-fits n h))
 -- ---- kinds 2 and 3 have a right child, whose number is its distance and the node's number; others have the same words
 -- in every place
 
-same-anywhere : (i : ℕ) (d : Node) → ¬ (kind-of d / 2 ≡ 1) → body 0 d ≡ body i d
+same-anywhere : (m i : ℕ) (d : Node) → ¬ (kind-of d / 2 ≡ 1) → body m d ≡ body i d
 unfolding kind-of body
-same-anywhere i (constant-node false) f = refl
-same-anywhere i (constant-node true) f = refl
-same-anywhere i (join-node and right) f = absurd (f refl)
-same-anywhere i (join-node or right) f = absurd (f refl)
-same-anywhere i not-node f = refl
-same-anywhere i (literal-node t s) f = literal-anywhere i t s
-same-anywhere i (bind-node q v) f = bind-anywhere i q v
+same-anywhere m i (constant-node false) f = refl
+same-anywhere m i (constant-node true) f = refl
+same-anywhere m i (join-node and right) f = absurd (f refl)
+same-anywhere m i (join-node or right) f = absurd (f refl)
+same-anywhere m i not-node f = refl
+same-anywhere m i (literal-node t s) f = sym (literal-anywhere m t s) ∙ literal-anywhere i t s
+same-anywhere m i (bind-node q v) f = sym (bind-anywhere m q v) ∙ bind-anywhere i q v
 
-record Joins (i : ℕ) (d : Node) : Type 0 where
+record Joins (d : Node) : Type 0 where
   kind : ℤ
   distance : ℕ
-  unplaced : body 0 d ≡ kind ∷ pos distance ∷ []
-  placed : body i d ≡ kind ∷ pos (distance + i) ∷ []
+  placed : (i : ℕ) → body i d ≡ kind ∷ pos (distance + i) ∷ []
   near : distance ≤ most-words
 
 -- a right child m nodes behind node i
@@ -56,31 +55,29 @@ child kind i m right e =
     ap (λ (z : ℤ). kind ∷ (pos i +ℤ z) ∷ []) e
     ∙ ap (λ (x : ℕ). kind ∷ pos x ∷ []) (let turned : i + m ≡ m + i = omega arith in turned)
 
-joins : (i : ℕ) (d : Node) → kind-of d / 2 ≡ 1 → Near d → Joins i d
+joins : (d : Node) → kind-of d / 2 ≡ 1 → Near d → Joins d
 unfolding kind-of body Near
-joins i (constant-node false) e n = absurd (omega arith)
-joins i (constant-node true) e n = absurd (omega arith)
-joins i (join-node and right) e n = record {
+joins (constant-node false) e n = absurd (omega arith)
+joins (constant-node true) e n = absurd (omega arith)
+joins (join-node and right) e n = record {
   kind = pos 2;
   distance = n .0;
-  unplaced = child (pos 2) 0 (n .0) right (n .1) ∙ ap (λ (x : ℕ). pos 2 ∷ pos x ∷ []) (add-zero (n .0));
-  placed = child (pos 2) i (n .0) right (n .1);
+  placed = λ i. child (pos 2) i (n .0) right (n .1);
   near = n .2;
 }
-joins i (join-node or right) e n = record {
+joins (join-node or right) e n = record {
   kind = pos 3;
   distance = n .0;
-  unplaced = child (pos 3) 0 (n .0) right (n .1) ∙ ap (λ (x : ℕ). pos 3 ∷ pos x ∷ []) (add-zero (n .0));
-  placed = child (pos 3) i (n .0) right (n .1);
+  placed = λ i. child (pos 3) i (n .0) right (n .1);
   near = n .2;
 }
-joins i not-node e n = absurd (omega arith)
-joins i (literal-node positive s) e n = absurd (omega arith)
-joins i (literal-node (divisible true k) s) e n = absurd (omega arith)
-joins i (literal-node (divisible false k) s) e n = absurd (omega arith)
-joins i (literal-node is-zero s) e n = absurd (omega arith)
-joins i (bind-node for-some v) e n = absurd (omega arith)
-joins i (bind-node for-all v) e n = absurd (omega arith)
+joins not-node e n = absurd (omega arith)
+joins (literal-node positive s) e n = absurd (omega arith)
+joins (literal-node (divisible true k) s) e n = absurd (omega arith)
+joins (literal-node (divisible false k) s) e n = absurd (omega arith)
+joins (literal-node is-zero s) e n = absurd (omega arith)
+joins (bind-node for-some v) e n = absurd (omega arith)
+joins (bind-node for-all v) e n = absurd (omega arith)
 
 -- ---- what is read and written of a node
 
@@ -90,34 +87,36 @@ pub record ReadNode (ws : List ℤ) (from k w : ℕ) : Type 0 where
   pub wide : w ≡ getD widths k 0
 
 -- the entry of node i is put, which makes vs of ts, and its body copied, which makes us of vs
-pub record CopiedNode (ws : List ℤ) (from i : ℕ) (ts : List ℤ) (to k w : ℕ) (us : List ℤ) : Type 0 where
+pub record CopiedNode (ws : List ℤ) (from : ℕ) (ts : List ℤ) (i to k w : ℕ) (us : List ℤ) : Type 0 where
   pub read : ReadNode ws from k w
   pub vs : List ℤ
   pub entry : vs ≡ set ts (i + 1) (pos to)
   pub copied : take (to + w) us ≡ take to vs ++ take w (drop from ws)
 
-module _ {ws : List ℤ} {from i : ℕ} {ts : List ℤ} {to : ℕ} {d : Node} (h : Placeable ws from i ts to d) where
+module _ {ws : List ℤ} {from shift : ℕ} {ts : List ℤ} {i to : ℕ} {d : Node}
+    (h : Placeable ws from shift ts i to d) where
   pub body-inside : from + width d ≤ length ws
   unfolding width
   body-inside =
-      let all = ap length (h .begins) ∙ length-append (body 0 d) (h .after) in
-      omega (arith, all, length-drop from ws, width-is d, words-pos d)
+      let all = ap length (h .begins) ∙ length-append (body (h .number) d) (h .after) in
+      omega (arith, all, length-drop from ws, length-body (h .number) d, width-is d, words-pos d)
 
   pub first-inside : from < length ws
   first-inside = omega (arith, body-inside, width-is d, words-pos d)
 
   -- word j of the body
-  body-word : (j : ℕ) → j < width d → getD ws (from + j) (pos 0) ≡ getD (body 0 d) j (pos 0)
+  body-word : (j : ℕ) → j < width d → getD ws (from + j) (pos 0) ≡ getD (body (h .number) d) j (pos 0)
   unfolding width
   body-word j l =
       sym (getD-drop from ws j (pos 0)) ∙ ap (λ (vs : List ℤ). getD vs j (pos 0)) (h .begins)
-      ∙ List·getD-append (body 0 d) (h .after) (pos 0) j l
+      ∙ List·getD-append (body (h .number) d) (h .after) (pos 0) j
+      (omega (arith, l, length-body (h .number) d, width-is d))
 
   module _ {k w : ℕ} (read : ReadNode ws from k w) where
     kind-is : k ≡ kind-of d
     kind-is =
         let start = getD-drop from ws 0 (pos 0) ∙ ap (λ (p : ℕ). getD ws p (pos 0)) (add-zero from) ∙ read .first in
-        let due = ap (λ (vs : List ℤ). getD vs 0 (pos 0)) (h .begins) ∙ first-word 0 d (h .after) in
+        let due = ap (λ (vs : List ℤ). getD vs 0 (pos 0)) (h .begins) ∙ first-word (h .number) d (h .after) in
         number-of k (kind-of d) (sym start ∙ due)
 
     is-wide : w ≡ width d
@@ -128,25 +127,26 @@ module _ {ws : List ℤ} {from i : ℕ} {ts : List ℤ} {to : ℕ} {d : Node} (h
 
     -- the second word of a join is its right child's distance u
     module _ (two : k / 2 ≡ 1) where
-      join : Joins i d
-      join = joins i d (sym (ap (λ (m : ℕ). m / 2) kind-is) ∙ two) (h .near)
+      join : Joins d
+      join = joins d (sym (ap (λ (m : ℕ). m / 2) kind-is) ∙ two) (h .near)
 
       two-words : w ≡ 2
       unfolding width
-      two-words = is-wide ∙ ap length (join .unplaced)
+      two-words = is-wide ∙ ap length (join .placed 0)
 
       pub second-inside : (from + 1 < length ws) × (to + 1 < length ts)
       second-inside = (omega (arith, two-words, copy-inside .0), omega (arith, two-words, copy-inside .1))
 
       module _ (u : ℕ) (second : getD ws (from + 1) (pos 0) ≡ signed u) where
-        distance-is : u ≡ join .distance
+        distance-is : u ≡ join .distance + h .number
         distance-is =
-            let word = ap (λ (l : List ℤ). getD l 1 (pos 0)) (join .unplaced) in
-            number-of u (join .distance) (sym second ∙ body-word 1 (omega (arith, is-wide, two-words)) ∙ word)
+            let word = ap (λ (l : List ℤ). getD l 1 (pos 0)) (join .placed (h .number)) in
+            number-of u (join .distance + h .number)
+            (sym second ∙ body-word 1 (omega (arith, is-wide, two-words)) ∙ word)
 
         -- its number is one that a word can hold
-        pub child-low : u + i ≤ limit
-        child-low = omega (arith, distance-is, join .near, h .behind-entry, h .most)
+        pub child-low : u + shift ≤ limit
+        child-low = omega (arith, distance-is, h .shifted, join .near, h .behind-entry, h .most)
 
   -- ---- what stands in the table then
 
@@ -156,40 +156,44 @@ module _ {ws : List ℤ} {from i : ℕ} {ts : List ℤ} {to : ℕ} {d : Node} (h
   front-long : length front ≡ to
   front-long = length-set (take to ts) (i + 1) (pos to) ∙ length-take-le to ts (omega (arith, h .room))
 
-  module _ {k w : ℕ} {us : List ℤ} (c : CopiedNode ws from i ts to k w us) where
-    copied-body : take (to + w) us ≡ front ++ body 0 d
+  module _ {k w : ℕ} {us : List ℤ} (c : CopiedNode ws from ts i to k w us) where
+    copied-body : take (to + w) us ≡ front ++ body (h .number) d
     unfolding width
     copied-body =
         c .copied
         ∙ ap (λ (l : List ℤ). take to l ++ take w (drop from ws)) (c .entry)
         ∙ ap (λ (l : List ℤ). l ++ take w (drop from ws)) (take-set-lt to ts (i + 1) (pos to) (h .behind-entry))
         ∙ ap (λ (l : List ℤ). front ++ take w l) (h .begins)
-        ∙ ap (λ (l : List ℤ). front ++ l) (take-at (body 0 d) (h .after) w (sym (is-wide (c .read))))
+        ∙ ap (λ (l : List ℤ). front ++ l)
+        (take-at (body (h .number) d) (h .after) w
+        (length-body (h .number) d ∙ sym (is-wide (c .read) ∙ width-is d)))
 
     pub other-placed : ¬ (k / 2 ≡ 1) → Placed ts us i to w d
     other-placed f =
-        let same = same-anywhere i d (λ e. f (ap (λ (m : ℕ). m / 2) (kind-is (c .read)) ∙ e)) in
+        let same = same-anywhere (h .number) i d (λ e. f (ap (λ (m : ℕ). m / 2) (kind-is (c .read)) ∙ e)) in
         record { wide = is-wide (c .read); begins = copied-body ∙ ap (λ (l : List ℤ). front ++ l) same }
 
     -- the right child's number is put, which makes xs of us
     pub join-placed : (two : k / 2 ≡ 1) (u : ℕ) → getD ws (from + 1) (pos 0) ≡ signed u
-        → (xs : List ℤ) → xs ≡ set us (to + 1) (pos (u + i)) → Placed ts xs i to w d
+        → (xs : List ℤ) → xs ≡ set us (to + 1) (pos (u + shift)) → Placed ts xs i to w d
     join-placed two u second xs e =
         let here = join (c .read) two in
         let kind = here .kind in
-        let child = pos (u + i) in
+        let child = pos (u + shift) in
         let before-child = front ++ kind ∷ [] in
         let long : length before-child ≡ to + 1 = omega (arith, length-append front (kind ∷ []), front-long) in
+        let moved : u + shift ≡ here .distance + i =
+        omega (arith, distance-is (c .read) two u second, h .shifted) in
         let inside : to + 1 < to + w = omega (arith, two-words (c .read) two) in
-        let two-there = copied-body ∙ ap (λ (l : List ℤ). front ++ l) (here .unplaced)
-        ∙ sym (append-assoc front (kind ∷ []) (pos (here .distance) ∷ [])) in
+        let two-there = copied-body ∙ ap (λ (l : List ℤ). front ++ l) (here .placed (h .number))
+        ∙ sym (append-assoc front (kind ∷ []) (pos (here .distance + h .number) ∷ [])) in
         record {
           wide = is-wide (c .read);
           begins = ap (take (to + w)) e
               ∙ take-set-lt (to + w) us (to + 1) child inside
               ∙ ap (λ (l : List ℤ). set l (to + 1) child) two-there
-              ∙ set-at before-child (pos (here .distance)) [] child (to + 1) long
+              ∙ set-at before-child (pos (here .distance + h .number)) [] child (to + 1) long
               ∙ append-assoc front (kind ∷ []) (child ∷ [])
-              ∙ ap (λ (m : ℕ). front ++ kind ∷ pos (m + i) ∷ []) (distance-is (c .read) two u second)
-              ∙ ap (λ (l : List ℤ). front ++ l) (sym (here .placed));
+              ∙ ap (λ (m : ℕ). front ++ kind ∷ pos m ∷ []) moved
+              ∙ ap (λ (l : List ℤ). front ++ l) (sym (here .placed i));
         }

@@ -35,19 +35,22 @@ Near not-node = Unit {0}
 Near (literal-node t s) = Unit {0}
 Near (bind-node q v) = Unit {0}
 
--- the words of d stand from place `from` of ws on, and as node i it has room at place `to` of ts, behind its entry
-pub record Placeable (ws : List ℤ) (from i : ℕ) (ts : List ℤ) (to : ℕ) (d : Node) : Type 0 where
+-- the words of d stand from place `from` of ws on, with a number that is `shift` less than i, and as node i it has room
+-- at place `to` of ts, behind its entry
+pub record Placeable (ws : List ℤ) (from shift : ℕ) (ts : List ℤ) (i to : ℕ) (d : Node) : Type 0 where
+  pub number : ℕ
+  pub shifted : number + shift ≡ i
   pub after : List ℤ
-  pub begins : drop from ws ≡ body 0 d ++ after
+  pub begins : drop from ws ≡ body number d ++ after
   pub good : Good d
   pub near : Near d
   pub behind-entry : i + 1 < to
   pub room : to + width d ≤ length ts
   pub most : to + width d ≤ most-words
 
-pub record SomePlaceable (ws : List ℤ) (from i : ℕ) (ts : List ℤ) (to : ℕ) : Type 0 where
+pub record SomePlaceable (ws : List ℤ) (from shift : ℕ) (ts : List ℤ) (i to : ℕ) : Type 0 where
   pub node : Node
-  pub placeable : Placeable ws from i ts to node
+  pub placeable : Placeable ws from shift ts i to node
 
 -- in vs, which was ts, node i is d: its entry says that its body, w words, stands at place `to`
 pub record Placed (ts vs : List ℤ) (i to w : ℕ) (d : Node) : Type 0 where

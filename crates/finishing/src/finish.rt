@@ -25,11 +25,12 @@ fn copy(work: &[u8], from: usize, width: usize, table: &mut [u8], to: usize)
     }
 }
 
-// Node i, whose words stand from place `from` of `work` on, at place `to` of `table`: its entry and its body. How many
-// words that has.
-fn node(work: &[u8], from: usize, i: usize, table: &mut [u8], to: usize) -> usize
-    requires { ⌜ SomePlaceable (words-of (now work)) from i (words-of (now table)) to ⌝ }
-    ensures { λ r. ⌜ ((d : Node) → Placeable (words-of (now (work .entry))) from i (words-of (now (table .entry))) to d
+// The node whose words stand from place `from` of `work` on, as node i of `table` at place `to`: its entry and its
+// body, where the number of a right child is `shift` more. How many words it has.
+pub fn node(work: &[u8], from: usize, shift: usize, table: &mut [u8], i: usize, to: usize) -> usize
+    requires { ⌜ SomePlaceable (words-of (now work)) from shift (words-of (now table)) i to ⌝ }
+    ensures { λ r. ⌜ ((d : Node)
+        → Placeable (words-of (now (work .entry))) from shift (words-of (now (table .entry))) i to d
         → Placed (words-of (now (table .entry))) (words-of (now (table .exit))) i to r d) ⌝ }
 {
     let kind = words::natural(work, from);
@@ -40,7 +41,11 @@ fn node(work: &[u8], from: usize, i: usize, table: &mut [u8], to: usize) -> usiz
     if kind / 2 != 1 {
         return width;
     }
-    words::put(table, to + 1, (words::natural(work, from + 1) + i) as i32);
+    words::put(
+        table,
+        to + 1,
+        (words::natural(work, from + 1) + shift) as i32,
+    );
     width
 }
 
@@ -56,7 +61,7 @@ pub fn finish(work: &[u8], b: State, table: &mut [u8])
     let mut from = words::count(work) - b.used;
     let mut to = n + 1;
     while i < n {
-        let width = node(work, from, i, table, to);
+        let width = node(work, from, i, table, i, to);
         from += width;
         to += width;
         i += 1;

@@ -37,7 +37,7 @@ read-node c = record { first = c .before .natural .ensures .1; wide = c .width .
 copied-node : (c : tie.After-copy)
     → let width = c .before .before .before .before .before .before in
     let args = width .before .before .before .before .args in
-    CopiedNode (words (args .work .now)) (args .from) (args .i) (words (args .table .now)) (args .to)
+    CopiedNode (words (args .work .now)) (args .from) (words (args .table .now)) (args .i) (args .to)
     (width .before .natural .result) (width .width .result) (words (c .copy .last .1 .1 .1 .0))
 copied-node c =
     let put = c .before .before .before .before in
@@ -118,7 +118,7 @@ returns-2 c =
     let u = second .natural2 .result in
     let child = second .natural2 .ensures .1 in
     λ d h. join-placed h (copied-node copied) two u child _
-    (put-is (words (copied .copy .last .1 .1 .1 .0)) _ (args .to + 1) (u + args .i)
+    (put-is (words (copied .copy .last .1 .1 .1 .0)) _ (args .to + 1) (u + args .shift)
     (child-low h (read-node width) two u child) (put .put2 .ensures .0))
 
 pub node-spec : {M : Type 1} → statement M
