@@ -1,0 +1,49 @@
+-- `place::one` meets its contract: the entry is put, then the kind.
+-- Assumes nothing.
+use native.Mathlib.Omega.{arith}
+use borrow.Author.Needs.{needs}
+use Prim.Native.Nat.{_+_, _≤_}
+use Rattle.rules.specs.Sum.{limit}
+use Rattle.rules.specs.Calls.{words}
+use Rattle.finishing.proofs.CopyLaws.{same-words}
+use Rattle.finishing.proofs.NodeLaws.{put-is}
+use Rattle.questions.proofs.RunLaws.{run-one, kind-stored}
+use Rattle.questions.proofs.place.one.Statement.{statement}
+use Rattle.questions.proofs.place.one.Tie as tie
+
+add-put : tie.Need-add-put
+add-put c = search needs
+
+cast-put : tie.Need-cast-put
+cast-put c = search needs
+
+put-requires : tie.Need-put-requires
+put-requires c κs = search needs
+
+cast-put-2 : tie.Need-cast-put-2
+cast-put-2 c = search needs
+
+put-requires-2 : tie.Need-put-requires-2
+put-requires-2 c κs =
+    let put = c .before .before .before in
+    let start = put .before .before .before in
+    omega (arith, start .pre .0 .bodies, same-words (put .put .last .0) (start .args .table .now) (put .put .kept .0))
+
+same-length : tie.Need-same-length
+same-length c = search needs
+
+returns : tie.Need-returns
+returns c = λ d e.
+    let second = c .before .before in
+    let first = second .before .before .before .before in
+    let start = first .before .before .before in
+    let args = start .args in
+    let free = start .pre .0 in
+    let low : args .to ≤ limit = omega (arith, free .bodies, free .most) in
+    run-one d e
+    (kind-stored _ (free .entries) (omega (arith, free .bodies))
+    (put-is (words (args .table .now)) _ (args .i + 1) (args .to) low (first .put .ensures .0))
+    (put-is (words (first .put .last .0)) _ (args .to) (args .kind) (start .pre .1) (second .put2 .ensures .0)))
+
+pub one-spec : {M : Type 1} → statement M
+one-spec = tie.close (tie.spec add-put cast-put put-requires cast-put-2 put-requires-2 same-length returns)
