@@ -7,7 +7,7 @@ use Prim.Native.Nat.{ℕ, _+_, _≤_}
 use native.Mathlib.Omega.{arith}
 use lib.Dec.{T, leb, leb→le}
 use lib.IntN.{ℤ, pos}
-use lib.ListN.{length, drop}
+use lib.ListN.{length, getD, drop}
 use lib.Seq.{drop-drop}
 use Rattle.rules.specs.Sum.{Sum, number, all-within}
 use Rattle.rules.specs.Rule.{Quantifier, Rule, Not}
@@ -18,8 +18,8 @@ use Rattle.rules.specs.Chosen.{replace}
 use Rattle.rules.specs.Literals.{some-literal}
 use Rattle.rules.specs.Eliminate.{over-limit, step-table}
 use Rattle.rules.specs.Laws.{InTable, WellFormed}
-use Rattle.rules.specs.Calls.{words, rule-of}
-use Rattle.rules.proofs.Refusals.{passed, then, given-inj}
+use Rattle.rules.specs.Calls.{signed, words}
+use Rattle.rules.proofs.Refusals.{passed, then}
 use Rattle.rules.proofs.Sizes.{weight, total, weight-is}
 use Rattle.rules.proofs.Folding.{keep-fold, folded-fold, fold-folded}
 use Rattle.rules.proofs.Weights.{join-lighter, fold-lighter}
@@ -28,8 +28,6 @@ use Rattle.rules.proofs.Shapes.{each-by-parts}
 use Rattle.rules.proofs.StepShapes.{within-table, replaced-formed}
 use Rattle.rules.proofs.Disjuncts.{same-body}
 use Rattle.tables.specs.Standing.{TableAt}
-use Rattle.tables.specs.Checks.{Verdict}
-use Rattle.tables.specs.declared.check.Checked.the-variants.{Table}
 use Rattle.tables.proofs.WordLaws.{words-from}
 use Rattle.tables.proofs.WalkLaws.{part}
 use Rattle.tables.proofs.Passed.{TableOf, table-words, table-formed, table-most}
@@ -44,10 +42,11 @@ use Rattle.bodies.specs.Body.{chosen-place}
 use Rattle.literals.specs.Changes.{becomes, Usable, Fair}
 use Rattle.walks.specs.Walk.{changed, Ready}
 use Rattle.steps.specs.Making.{new-of, Makeable, Around}
-use Rattle.elimination.specs.Stepping.{none-built, Closing, sized, Stepped, Rebuilding, FirstReady}
+use Rattle.elimination.specs.Stepping.{HasTable, InPlace, none-built, Folding, Closing, sized, Stepped}
+use Rattle.elimination.specs.Stepping.{Rebuilding, FirstReady}
 use Rattle.literals.specs.declared.change.Change.the-variants.{Same}
 use Rattle.steps.specs.declared.made.Step.{Step}
-use Rattle.elimination.proofs.TableLaws.{words-there, ReadTable, rule-stands, rule-few}
+use Rattle.elimination.proofs.TableLaws.{words-there, ReadTable, read-table, rule-stands, rule-few}
 
 -- ---- what is built becomes the table
 
@@ -162,57 +161,76 @@ around-asks {l} {n} {step = step} {places = places} {r = r} {x = x} {a = a} t k 
     body-is = ap (λ (m : ℕ). drop m (words l)) behind ∙ sym (drop-drop (chosen-place r + 2) (n + 1) (words l))
         ∙ ap (drop (chosen-place r + 2)) (sym (words-from l (n + 1)))
 
--- ---- the first one
+-- ---- the first one: a rule folded, with nothing changed
 
-pub verdict-table : {l : List ℕ} {n : ℕ} {r : Rule} → Verdict (rule-of l) (Table n) → rule-of l ≡ given r
-    → TableOf l n r
-unfolding Verdict
-verdict-table (s, decodes, counted) e = record {
-  decodes = e;
-  counted = counted ∙ ap count (given-inj (sym decodes ∙ e));
+unchanged : (u : Sum) (r : Rule) → changed Same u r ≡ r
+unfolding changed becomes
+unchanged u r = same-body r
+
+pub folding-table : {l : List ℕ} {n : ℕ} {ws : List ℤ} {r : Rule} → Folding (words l) n ws r → ReadTable l n r
+folding-table k = record { has = k .has; counted = k .counted }
+
+pub fold-asks : (l : List ℕ) {n : ℕ} {ws : List ℤ} {nothing : Sum} {b : State} {r : Rule}
+    → Folding (words l) n ws r → nothing ≡ number (pos 0) → Starts b
+    → Ready (part l 1) (part l (n + 1)) 0 (n + 1) Same nothing ws b r []
+unfolding total Fair all-within
+fold-asks l {nothing = nothing} {r = r} k zeros none = record {
+  stands = rule-stands (folding-table k);
+  few = rule-few (folding-table k);
+  formed = k .has .formed;
+  usable = subst (Usable Same) (sym zeros) (record { seven = refl; small = tt; fair = tt });
+  numbers = subst (λ (a : Rule). T (not (some-literal over-limit a))) (sym (unchanged nothing r))
+      (within-table r (k .has .formed));
+  built = none _;
+  small = omega (arith, words-there (k .has), k .has .few);
+  room = k .most;
 }
 
-pub passed-table : {l : List ℕ} {n : ℕ} {r : Rule} → TableOf l n r → ReadTable l n r
-passed-table {r = r} t = record {
+-- what the walk answers, with nothing changed
+pub fold-gives : (ws : List ℤ) (u : Sum) (b : State) (r : Rule) (f : Folded) → Gives ws b [] (fold (changed Same u r)) f
+    → Gives ws none-built [] (fold r) f
+fold-gives ws u b r f answered =
+    started ws b none-built (fold r) f built-none
+    (subst (λ (a : Rule). Gives ws b [] (fold a) f) (unchanged u r) answered)
+
+pub fold-closing : {ts ws : List ℤ} {room : ℕ} {r : Rule} {ks : List ℤ} (vs : List ℤ) (f : Folded) → HasTable ks r
+    → FirstReady ts ws room → length vs ≡ length ws → Gives vs none-built [] (fold r) f → Closing ts vs room f (fold r)
+fold-closing {r = r} vs f has k same answered = record {
+  gives = answered;
+  formed = keep-fold WellFormed (each-by-parts InTable) r (has .formed);
+  light = omega (arith, fold-lighter r, words-there has, has .few);
+  table-room = k .table-room;
+  work-room = same ∙ k .work-room;
+  most = k .most;
+}
+
+-- ---- of an input apart, and of one in its own place
+
+pub input-folding : {l : List ℕ} {n : ℕ} {ts ws : List ℤ} {room : ℕ} {r : Rule} → TableOf l n r → FirstReady ts ws room
+    → Folding (words l) n ws r
+input-folding {r = r} t k = record {
   has = record {
     table = record { after = []; begins = table-words t ∙ sym (append-nil (encode r)) };
     formed = table-formed t;
     few = table-most t;
   };
   counted = t .counted;
+  most = omega (arith, k .work-room, k .most);
 }
 
-unchanged : (u : Sum) (r : Rule) → changed Same u r ≡ r
-unfolding changed becomes
-unchanged u r = same-body r
-
-pub first-asks : {l : List ℕ} {n : ℕ} {ts ws : List ℤ} {room : ℕ} {nothing : Sum} {b : State} {r : Rule}
-    → ReadTable l n r → FirstReady ts ws room → nothing ≡ number (pos 0) → Starts b
-    → Ready (part l 1) (part l (n + 1)) 0 (n + 1) Same nothing ws b r []
-unfolding total Fair all-within
-first-asks {nothing = nothing} {r = r} t k zeros none = record {
-  stands = rule-stands t;
-  few = rule-few t;
-  formed = t .has .formed;
-  usable = subst (Usable Same) (sym zeros) (record { seven = refl; small = tt; fair = tt });
-  numbers = subst (λ (a : Rule). T (not (some-literal over-limit a))) (sym (unchanged nothing r))
-      (within-table r (t .has .formed));
-  built = none _;
-  small = omega (arith, words-there (t .has), t .has .few);
-  room = omega (arith, k .work-room, k .most);
+pub here-folding : (l : List ℕ) {n : ℕ} {ws : List ℤ} {room : ℕ} {r : Rule} → InPlace (words l) ws room r
+    → getD (words l) 0 (pos 0) ≡ signed n → Folding (words l) n ws r
+here-folding l k e = record {
+  has = k .has;
+  counted = read-table (k .has) e .counted;
+  most = omega (arith, k .has .few, k .table-room, k .work-room);
 }
 
-pub first-closing : {l : List ℕ} {n : ℕ} {ts ws : List ℤ} {room : ℕ} {r : Rule} (vs : List ℤ) (u : Sum) (b : State)
-    (folded : Folded) → ReadTable l n r → FirstReady ts ws room → length vs ≡ length ws
-    → Gives vs b [] (fold (changed Same u r)) folded → Closing ts vs room folded (fold r)
-first-closing {r = r} vs u b folded t k same answered = record {
-  gives = started vs b none-built (fold r) folded built-none
-      (subst (λ (a : Rule). Gives vs b [] (fold a) folded) (unchanged u r) answered);
-  formed = keep-fold WellFormed (each-by-parts InTable) r (t .has .formed);
-  light = omega (arith, fold-lighter r, words-there (t .has), t .has .few);
+pub here-ready : {ts ws : List ℤ} {room : ℕ} {r : Rule} → InPlace ts ws room r → FirstReady ts ws room
+here-ready k = record {
   table-room = k .table-room;
-  work-room = same ∙ k .work-room;
-  most = k .most;
+  work-room = k .work-room;
+  most = omega (arith, k .has .few, k .table-room);
 }
 
 -- its numbers are never over the limit

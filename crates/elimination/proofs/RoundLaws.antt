@@ -20,6 +20,7 @@ use Rattle.rules.specs.Eliminate.{common-step, disjunction-step, round, rounds}
 use Rattle.rules.specs.Laws.{Each, InTable, WellFormed}
 use Rattle.rules.proofs.Encoding.{setting-range}
 use Rattle.rules.proofs.Choosing.{put, put-each, put-some, is-chosen}
+use Rattle.rules.proofs.Folding.{Folded, folded-fold}
 use Rattle.rules.proofs.Shapes.{Shape, formed-shape, normal-shape}
 use Rattle.rules.proofs.StepShapes.{some-shape, by-some-shape, scaled-shape, disjunction-shape, replaced-formed}
 use Rattle.rules.proofs.StepShapes.{replaced-numbers}
@@ -35,7 +36,7 @@ use Rattle.elimination.proofs.StepLaws.{For, by-for-all, by-normal, by-
 unfoldable pub Fair : ℕ → Result Rule → Type 0
 unfolding size
 Fair room (refused k) = 1 ≤ k
-Fair room (given f) = WellFormed f × (size f ≤ room)
+Fair room (given f) = WellFormed f × (size f ≤ room) × Folded f
 
 fair-require : (room : ℕ) (b : Bool) (k : ℕ) (rest : Result Rule) → 1 ≤ k → (T b → Fair room rest)
     → Fair room (require b k >>= λ u. rest)
@@ -44,10 +45,10 @@ fair-require room true k rest h f = f tt
 fair-require room false k rest h f = h
 
 fair-then : (room : ℕ) (m : Result Rule) (step : Rule → Result Rule) → Fair room m
-    → ((f : Rule) → WellFormed f → size f ≤ room → Fair room (step f)) → Fair room (m >>= step)
+    → ((f : Rule) → WellFormed f → size f ≤ room → Folded f → Fair room (step f)) → Fair room (m >>= step)
 unfolding Fair _>>=_
 fair-then room (refused k) step h next = h
-fair-then room (given f) step h next = next f (h .0) (h .1)
+fair-then room (given f) step h next = next f (h .0) (h .1) (h .2)
 
 module _ (room : ℕ) (r : Rule) (w : WellFormed r) where
   fair-table : (new : Rule) {q : Quantifier} {x : ℕ} {a : Rule} → chosen r ≡ the q x a → Each Shape new
@@ -57,7 +58,7 @@ module _ (room : ℕ) (r : Rule) (w : WellFormed r) where
       subst (Fair room) (sym (numbers-first room (replace new r) (replaced-numbers new r at w)))
       (fair-require room (not (some-literal over-limit new)) 5 (sized room f) (omega arith)
       (λ within. fair-require room (leb (size f) room) 6 (given f) (omega arith)
-      (λ fits. (replaced-formed new r at w shape within, leb→le (size f) room fits))))
+      (λ fits. (replaced-formed new r at w shape within, leb→le (size f) room fits, folded-fold (replace new r)))))
     where
       f : Rule
       f = fold (replace new r)
@@ -79,14 +80,14 @@ module _ (room : ℕ) (r : Rule) (w : WellFormed r) where
     unfolding Each
     formed = formed-there .1
 
-  module _ (fits : size r ≤ room) where
+  module _ (fits : size r ≤ room) (folded : Folded r) where
     fair-chosen : (step : For) → ((q : Quantifier) (x : ℕ) (a : Rule) → chosen r ≡ the q x a → Fair room (step q x a))
         → Fair room (on-chosen r (chosen r) step)
     unfolding Fair on-chosen
     fair-chosen step one = go (chosen r) refl
       where
         go : (k : Chosen) → chosen r ≡ k → Fair room (on-chosen r k step)
-        go nothing e = (w, fits)
+        go nothing e = (w, fits, folded)
         go (the q x a) e = one q x a e
 
     pub for-all-fair : Fair room (for-all-step room r)
@@ -94,7 +95,7 @@ module _ (room : ℕ) (r : Rule) (w : WellFormed r) where
     for-all-fair = fair-chosen (by-for-all room r) go
       where
         go : (q : Quantifier) (x : ℕ) (a : Rule) → chosen r ≡ the q x a → Fair room (by-for-all room r q x a)
-        go for-some x a at = (w, fits)
+        go for-some x a at = (w, fits, folded)
         go for-all x a at = fair-table (by-some x a) at (by-some-shape x a (low at) (high at) (formed at))
 
     pub normal-fair : Fair room (normal-step room r)
@@ -118,15 +119,15 @@ module _ (room : ℕ) (r : Rule) (w : WellFormed r) where
         fair-require room (leb (period a) most-period) 7 (step-table room (replace new r)) (omega arith)
         (λ t. fair-table new at (disjunction-shape (period a) x a (low at) (high at) (formed at))))
 
-pub round-fair : (room : ℕ) (r : Rule) → WellFormed r → size r ≤ room → Fair room (round room r)
+pub round-fair : (room : ℕ) (r : Rule) → WellFormed r → size r ≤ room → Folded r → Fair room (round room r)
 unfolding round
-round-fair room r w fits =
+round-fair room r w fits folded =
     let first = for-all-step room r in
     let second = first >>= normal-step room in
     let third = second >>= common-step room in
     fair-then room third (disjunction-step room)
     (fair-then room second (common-step room)
-    (fair-then room first (normal-step room) (for-all-fair room r w fits) (normal-fair room)) (common-fair room))
+    (fair-then room first (normal-step room) (for-all-fair room r w fits folded) (normal-fair room)) (common-fair room))
     (disjunction-fair room)
 
 -- ---- where a line of steps has come to
@@ -157,12 +158,12 @@ module _ {ts ws : List ℤ} {room : ℕ} {m : Result Rule} (come : Come ts ws ro
   answered-next = subst (λ (s : Result Rule). Stepped (s >>= step) n us) (sym (come .is))
       (answers (come .rule) (come .ready))
 
-  pub come-next : ((r : Rule) → WellFormed r → size r ≤ room → Fair room (step r)) → n ≡ 0
+  pub come-next : ((r : Rule) → WellFormed r → size r ≤ room → Folded r → Fair room (step r)) → n ≡ 0
       → (vs : List ℤ) → length us ≡ length ts → length vs ≡ length ws → Come us vs room (m >>= step)
   unfolding _>>=_
   come-next fair none vs same-table same-work =
       subst (λ (s : Result Rule). Come us vs room (s >>= step)) (sym (come .is))
-      (go (step (come .rule)) (fair (come .rule) (come .ready .has .formed) (come .ready .fits))
+      (go (step (come .rule)) (fair (come .rule) (come .ready .has .formed) (come .ready .fits) (come .ready .folded))
       (answers (come .rule) (come .ready)))
     where
       go : (s : Result Rule) → Fair room s → Stepped s n us → Come us vs room s
@@ -172,6 +173,7 @@ module _ {ts ws : List ℤ} {room : ℕ} {m : Result Rule} (come : Come ts ws ro
         is = refl;
         ready = record {
           has = record { table = h .1; formed = f .0; few = omega (arith, come .ready .has .few, same-table) };
+          folded = f .2;
           fits = f .1;
           table-room = same-table ∙ come .ready .table-room;
           work-room = same-work ∙ come .ready .work-room;

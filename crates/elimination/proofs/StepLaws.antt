@@ -1,6 +1,7 @@
 -- The four steps on the chosen quantifier: the limits in their order, and the new rule, which can be built.
 -- Assumes nothing.
 use mathlib.Core.Path.{_≡_, refl, sym, _∙_, ap, subst}
+use mathlib.Core.Logic.{inl, inr}
 use mathlib.Core.Bool.{Bool, true, false, not, _||_}
 use mathlib.Core.List.{List, [], _∷_}
 use Prim.Native.Nat.{ℕ, zero, suc, _+_, _*_, _<_, _≤_}
@@ -36,6 +37,7 @@ use Rattle.tables.proofs.Parts.{part-words}
 use Rattle.bodies.specs.Body.{BodyOf, SomeBody, Bounded, BoundsAt, RoomForBounds, chosen-place}
 use Rattle.bodies.proofs.BoundCount.{few-bounds}
 use Rattle.steps.specs.Numbers.{SomeBounds}
+use Rattle.steps.specs.Blocks.{BodyThere, SomeBodyBounds}
 use Rattle.builder.specs.Built.{Built}
 use Rattle.builder.specs.declared.push.State.{State}
 use Rattle.folding.specs.declared.answers.Folded.{Folded}
@@ -43,20 +45,24 @@ use Rattle.walks.specs.Normal.{NormalReady, Normalled}
 use Rattle.literals.specs.Changes.{Usable, becomes, Fair}
 use Rattle.walks.specs.Walk.{changed}
 use Rattle.steps.specs.Making.{new-of, FairStep, Makeable}
-use Rattle.elimination.specs.Stepping.{is-some, LocatedIn, StepReady, Stepped, sized, Rebuilding}
+use Rattle.elimination.specs.Stepping.{is-some, Locates, LocatedIn, StepReady, Stepped, sized, Rebuilding}
+use Rattle.elimination.specs.Stepping.{Planned}
 use Rattle.literals.specs.declared.change.Change.the-variants.{Scaled}
 use Rattle.elimination.specs.declared.locate.Located.{Located}
 use Rattle.elimination.specs.declared.locate.Located.the-variants.{Nowhere, There}
 use Rattle.elimination.specs.declared.locate.Quantified.{Quantified}
+use Rattle.elimination.specs.declared.step.Plan.{Plan}
+use Rattle.elimination.specs.declared.step.Plan.the-variants.{TooLong, Make}
 use Rattle.walks.specs.declared.normal.Normal.{Normal}
 use Rattle.walks.specs.declared.normal.Normal.the-variants.{OverLimit, Made}
 use Rattle.steps.specs.declared.made.Step.{Step}
-use Rattle.steps.specs.declared.made.Step.the-variants.{ForAll, NormalForm, CommonFactor, Disjunction}
+use Rattle.steps.specs.declared.made.Step.the-variants.{ForAll, NormalForm, CommonFactor, Disjunction, Truth}
 use Rattle.elimination.proofs.LocateLaws.{ChosenIn, located, body-stands, body-few, body-free, quantifier-small}
 use Rattle.elimination.proofs.LocateLaws.{body-formed, quantifier-formed, setting-known, body-of, body-there}
 use Rattle.elimination.proofs.LocateLaws.{entry-there, entry-inside, body-inside}
 use Rattle.steps.proofs.DisjunctionWeights.{disjunction-light}
 use Rattle.elimination.proofs.SameBodies.{same-count}
+use Rattle.elimination.proofs.PlanLaws.{same-replaced, replaced-long, no-room}
 
 -- ---- tests
 
@@ -235,15 +241,15 @@ module _ (room : ℕ) (r : Rule) {x : ℕ} {a : Rule} where
         ∙ ap (λ (n : ℕ). step-table room (replace (disjunction n x a) r)) (sym e)
 
 -- what the normal form's numbers are told to be
-pub normal-over : (vs : List ℤ) (b : State) (n : Rule) {f : Normal} → f ≡ OverLimit → Normalled vs b [] n f
-    → T (some-literal over-limit n)
+pub normal-passes : (vs : List ℤ) (b : State) (n : Rule) {f : Normal} → f ≡ OverLimit → Normalled vs b [] n f
+    → true ≡ some-literal over-limit n
 unfolding Normalled
-normal-over vs b n e h = subst (Normalled vs b [] n) e h
+normal-passes vs b n e h = sym (yes _ (subst (Normalled vs b [] n) e h))
 
 pub normal-within : (vs : List ℤ) (b : State) (n : Rule) {f : Normal} (g : Folded) → f ≡ Made g → Normalled vs b [] n f
-    → T (not (some-literal over-limit n))
+    → false ≡ some-literal over-limit n
 unfolding Normalled
-normal-within vs b n g e h = subst (Normalled vs b [] n) e h .0
+normal-within vs b n g e h = sym (no _ (subst (Normalled vs b [] n) e h .0))
 
 -- what the multiples answer
 pub multiple-over : {n : ℕ} {m : Multiple} → m ≡ multiple.OverLimit → Bounded n m → most-period < n
@@ -264,20 +270,22 @@ pub record Placed (l : List ℕ) (ws : List ℤ) (room : ℕ) (r : Rule) (c : Qu
   pub some-is : c .some ≡ is-some quantifier
   pub end-is : c .end ≡ weight body
 
+abbrev pub placed-at : {l : List ℕ} {ws : List ℤ} {room : ℕ} {r : Rule} {q : Quantifier} {x : ℕ} {a : Rule}
+    {c : Quantified} → StepReady (words l) ws room r → Locates r q x a c → Placed l ws room r c
+placed-at {l} {ws} {room} {r} {q} {x} {a} {c} ready found = record {
+  quantifier = q;
+  body = a;
+  ready = ready;
+  there = subst (λ (v : ℕ). ChosenIn l r q v a (c .node) (c .place)) (sym (found .setting-is))
+      (located (ready .has) found);
+  some-is = found .quantifier-is;
+  end-is = found .end-is;
+}
+
 pub placed : {l : List ℕ} {ws : List ℤ} {room : ℕ} {r : Rule} {f : Located} {c : Quantified}
     → StepReady (words l) ws room r → f ≡ There c → LocatedIn r f → Placed l ws room r c
 unfolding LocatedIn
-placed {l} {ws} {room} {r} {f} {c} ready e h =
-    let (q, x, a, found) = subst (LocatedIn r) e h in
-    record {
-      quantifier = q;
-      body = a;
-      ready = ready;
-      there = subst (λ (v : ℕ). ChosenIn l r q v a (c .node) (c .place)) (sym (found .setting-is))
-          (located (ready .has) found);
-      some-is = found .quantifier-is;
-      end-is = found .end-is;
-    }
+placed {r = r} ready e h = let (q, x, a, found) = subst (LocatedIn r) e h in placed-at ready found
 
 -- the new rule that is put there
 pub record NewRule (step : Step) (bs : List ℤ) (places : List ℕ) (x : ℕ) (a : Rule) : Type 0 where
@@ -288,6 +296,7 @@ pub another-work : {ts ws vs : List ℤ} {room : ℕ} {r : Rule} → length vs �
     → StepReady ts vs room r
 another-work e ready = record {
   has = ready .has;
+  folded = ready .folded;
   fits = ready .fits;
   table-room = ready .table-room;
   work-room = e ∙ ready .work-room;
@@ -308,6 +317,16 @@ module _ {l : List ℕ} {ws : List ℤ} {room : ℕ} {r : Rule} {c : Quantified}
       same-bodies : part l (c .place + 2) ≡ drop (count r + 1 + chosen-place r + 2) (words l)
       same-bodies = words-from l (c .place + 2) ∙ ap (λ (k : ℕ). drop (k + 2) (words l)) (p .there .place-is)
 
+  pub locates : Locates r (p .quantifier) (c .setting) (p .body) c
+  locates = record {
+    at = p .there .at;
+    number-is = p .there .number-is;
+    place-is = p .there .place-is;
+    quantifier-is = p .some-is;
+    setting-is = refl;
+    end-is = p .end-is;
+  }
+
   light-body : weight (p .body) ≤ most-words
   light-body = omega (arith, quantifier-small (p .there))
 
@@ -320,7 +339,7 @@ module _ {l : List ℕ} {ws : List ℤ} {room : ℕ} {r : Rule} {c : Quantified}
   high : c .setting ≤ 6
   high = setting-known (p .there) .1
 
-  formed : WellFormed (p .body)
+  pub formed : WellFormed (p .body)
   formed = body-formed (p .there)
 
   -- in bytes
@@ -377,16 +396,16 @@ module _ {l : List ℕ} {ws : List ℤ} {room : ℕ} {r : Rule} {c : Quantified}
 
   -- ---- 1. normal form
 
-  pub new-normal : (bs : List ℤ) (places : List ℕ)
-      → T (not (some-literal over-limit (normal true (c .setting) (p .body))))
+  pub new-normal : (bs : List ℤ) (places : List ℕ) {b : Bool} → b ≡ false
+      → b ≡ some-literal over-limit (normal true (c .setting) (p .body))
       → NewRule NormalForm bs places (c .setting) (p .body)
   unfolding new-of FairStep some-literal weight
-  new-normal bs places h =
+  new-normal bs places none e =
       let b = normal true (c .setting) (p .body) in
       record {
         makeable = record {
           fair = tt;
-          numbers = h;
+          numbers = subst (λ (d : Bool). T (not d)) (sym (sym e ∙ none)) tt;
           light = omega (
             arith,
             fold-lighter (Some (c .setting) b),
@@ -398,7 +417,7 @@ module _ {l : List ℕ} {ws : List ℤ} {room : ℕ} {r : Rule} {c : Quantified}
             (formed-shape (p .body) formed));
       }
 
-  -- it is built from nothing, at first only to see its numbers
+  -- it is built from nothing, only to see its numbers
   pub normal-asks : (b : State) → ((vs : List ℤ) → Built vs b []) → NormalReady (part l (c .node + 2))
       (part l (c .place + 2)) (c .node + 1) (c .place + 2) (c .setting) ws b (p .body) []
   unfolding total
@@ -413,17 +432,19 @@ module _ {l : List ℕ} {ws : List ℤ} {room : ℕ} {r : Rule} {c : Quantified}
     room = omega (arith, p .ready .work-room, p .ready .table-room, p .ready .has .few);
   }
 
-  pub normal-refused : (ts : List ℤ) → T (some-literal over-limit (normal true (c .setting) (p .body)))
-      → Stepped (normal-step room r) 5 ts
+  pub normal-refused : (ts : List ℤ) {b : Bool} → b ≡ true
+      → b ≡ some-literal over-limit (normal true (c .setting) (p .body)) → Stepped (normal-step room r) 5 ts
   unfolding some-literal
-  normal-refused ts h = refusal ts 5
-      (normal-is room r (p .there .at) ∙ refused-by (Some (c .setting) (normal true (c .setting) (p .body))) (yes _ h))
+  normal-refused ts some e = refusal ts 5
+      (normal-is room r (p .there .at)
+      ∙ refused-by (Some (c .setting) (normal true (c .setting) (p .body))) (sym e ∙ some))
 
-  pub normal-stepped : (ts : List ℤ) (n : ℕ) → T (not (some-literal over-limit (normal true (c .setting) (p .body))))
+  pub normal-stepped : (ts : List ℤ) (n : ℕ) {bs : List ℤ} {places : List ℕ}
+      → NewRule NormalForm bs places (c .setting) (p .body)
       → Stepped (sized room (fold (replace (new-of NormalForm (c .setting) (p .body)) r))) n ts
       → Stepped (normal-step room r) n ts
   unfolding new-of
-  normal-stepped ts n w h = answered ts n (normal-is room r (p .there .at) ∙ sized-by (new-normal [] [] w)) h
+  normal-stepped ts n new h = answered ts n (normal-is room r (p .there .at) ∙ sized-by new) h
 
   -- ---- the body, as the loops over it ask for it
 
@@ -555,10 +576,77 @@ module _ {l : List ℕ} {ws : List ℤ} {room : ℕ} {r : Rule} {c : Quantified}
         (disjunction-is room r (p .there .at) P (least .0) (least .1)
         ∙ refused-by (disjunction P (c .setting) (p .body)) (sym e ∙ some))
 
-    pub disjunction-stepped : (ts : List ℤ) (n : ℕ)
-        → NewRule (Disjunction P k) (part l (c .place + 2)) places (c .setting) (p .body)
-        → Stepped (sized room (fold (replace (new-of (Disjunction P k) (c .setting) (p .body)) r))) n ts
-        → Stepped (disjunction-step room r) n ts
-    unfolding new-of
-    disjunction-stepped ts n new h =
-        answered ts n (disjunction-is room r (p .there .at) P (least .0) (least .1) ∙ sized-by new) h
+    -- a truth value can be put anywhere
+    new-truth : (v : Bool) → NewRule (Truth v) (part l (c .place + 2)) places (c .setting) (p .body)
+    unfolding new-of FairStep some-literal Each fold weight
+    new-truth v = record { makeable = record { fair = tt; numbers = tt; light = omega arith }; shape = tt }
+
+    -- the body stands there to be surveyed
+    pub body-judged : BodyThere (part l (c .node + 2)) (part l (c .place + 2)) (c .node + 1) (c .place + 2)
+        (c .setting) P (p .body)
+    body-judged = record {
+      stands = body-stands (p .there);
+      few = body-few (p .there);
+      formed = formed;
+      setting = (low, high);
+      upto = least .1;
+    }
+
+    pub survey-asks : SomeBodyBounds (part l (c .node + 2)) (part l (c .place + 2)) (c .node + 1) (c .place + 2)
+        (c .setting) P places k × (k ≤ 1365)
+    survey-asks = (record { rule = p .body; there = body-judged; bounds-at = at }, few-bounds-at)
+
+    -- what is planned
+    module _ (new : NewRule (Disjunction P k) (part l (c .place + 2)) places (c .setting) (p .body)) where
+      whole-step : disjunction-step room r ≡ sized room (fold (replace (disjunction P (c .setting) (p .body)) r))
+      unfolding new-of
+      whole-step = disjunction-is room r (p .there .at) P (least .0) (least .1) ∙ sized-by new
+
+      pub too-long : (ts : List ℤ) {plan : Plan} → plan ≡ TooLong → Planned room P k (c .setting) (p .body) plan
+          → Stepped (disjunction-step room r) 6 ts
+      unfolding Planned
+      too-long ts e planned =
+          let (stays, long) = subst (Planned room P k (c .setting) (p .body)) e planned in
+          refusal ts 6 (whole-step ∙ no-room room (fold (replace (disjunction P (c .setting) (p .body)) r))
+          (omega (
+            arith,
+            long,
+            replaced-long (disjunction P (c .setting) (p .body)) r (p .there .at) (p .ready .folded)
+                stays,
+          )))
+
+      module _ {plan : Plan} {step : Step} (e : plan ≡ Make step)
+          (planned : Planned room P k (c .setting) (p .body) plan) where
+        pub new-planned : NewRule step (part l (c .place + 2)) places (c .setting) (p .body)
+        unfolding Planned
+        new-planned = go (subst (Planned room P k (c .setting) (p .body)) e planned)
+          where
+            As : Step → Type 0
+            As s = NewRule s (part l (c .place + 2)) places (c .setting) (p .body)
+
+            go : Planned room P k (c .setting) (p .body) (Make step) → As step
+            go (inl is) = subst As (sym is) new
+            go (inr (v, is, folds)) = subst As (sym is) (new-truth v)
+
+        pub planned-stepped : (ts : List ℤ) (n : ℕ)
+            → Stepped (sized room (fold (replace (new-of step (c .setting) (p .body)) r))) n ts
+            → Stepped (disjunction-step room r) n ts
+        unfolding Planned new-of fold
+        planned-stepped ts n h = answered ts n
+            (whole-step ∙ ap (sized room) (same-replaced whole (new-of step x a) same r)) h
+          where
+            x : ℕ
+            x = c .setting
+
+            a : Rule
+            a = p .body
+
+            whole : Rule
+            whole = disjunction P x a
+
+            go : Planned room P k x a (Make step) → fold whole ≡ fold (new-of step x a)
+            go (inl is) = ap (λ (s : Step). fold (new-of s x a)) (sym is)
+            go (inr (v, is, folds)) = folds ∙ ap (λ (s : Step). fold (new-of s x a)) (sym is)
+
+            same : fold whole ≡ fold (new-of step x a)
+            same = go (subst (Planned room P k x a) e planned)

@@ -3,28 +3,35 @@
 use mathlib.Core.Path.{_≡_}
 use mathlib.Core.Bool.{Bool, true, false}
 use mathlib.Core.List.{List, []}
+use mathlib.Core.Logic.{_⊎_}
 use Prim.Native.Nat.{ℕ, _+_, _<_, _≤_}
 use lib.Dec.{leb}
 use lib.IntN.{ℤ}
 use lib.ListN.{length, drop}
-use Rattle.rules.specs.Rule.{Quantifier, for-some, for-all, Rule}
+use Rattle.rules.specs.Rule.{Quantifier, for-some, for-all, Rule, Constant}
 use Rattle.rules.specs.Result.{Result, refused, given, _>>=_, require}
 use Rattle.rules.specs.Table.{most-words, count, size}
+use Rattle.rules.specs.Fold.{fold}
 use Rattle.rules.specs.Chosen.{the, nothing, chosen}
+use Rattle.rules.specs.Steps.{disjunction}
 use Rattle.rules.specs.Laws.{Each, WellFormed}
 use Rattle.rules.proofs.Sizes.{weight}
+use Rattle.rules.proofs.Folding.{Open, Folded}
 use Rattle.rules.proofs.Shapes.{Shape}
 use Rattle.tables.specs.Standing.{TableAt}
 use Rattle.builder.specs.Built.{most-counted}
 use Rattle.builder.specs.declared.push.State.{State}
 use Rattle.folding.specs.Answers.{Gives}
-use Rattle.folding.specs.declared.answers.Folded.{Folded}
+use Rattle.folding.specs.declared.answers.Folded as answer
 use Rattle.bodies.specs.Body.{chosen-number, chosen-place}
 use Rattle.steps.specs.Making.{new-of, Makeable}
 use Rattle.elimination.specs.declared.locate.Located.{Located}
 use Rattle.elimination.specs.declared.locate.Located.the-variants.{Nowhere, There}
 use Rattle.elimination.specs.declared.locate.Quantified.{Quantified}
+use Rattle.elimination.specs.declared.step.Plan.{Plan}
+use Rattle.elimination.specs.declared.step.Plan.the-variants.{TooLong, Make}
 use Rattle.steps.specs.declared.made.Step.{Step}
+use Rattle.steps.specs.declared.made.Step.the-variants.{Disjunction, Truth}
 
 -- ---- a table
 
@@ -58,9 +65,10 @@ LocatedIn r (There c) = (q : Quantifier) × (x : ℕ) × (a : Rule) × Locates r
 
 -- ---- a step
 
--- the table of the rule r is in ts, and both buffers have exactly the room
+-- the table of the rule r, which is folded throughout, is in ts, and both buffers have exactly the room
 pub record StepReady (ts ws : List ℤ) (room : ℕ) (r : Rule) : Type 0 where
   pub has : HasTable ts r
+  pub folded : Folded r
   pub fits : size r ≤ room
   pub table-room : length ts ≡ room
   pub work-room : length ws ≡ room
@@ -68,6 +76,16 @@ pub record StepReady (ts ws : List ℤ) (room : ℕ) (r : Rule) : Type 0 where
 pub record SomeStepReady (ts ws : List ℤ) (room : ℕ) : Type 0 where
   pub rule : Rule
   pub ready : StepReady ts ws room rule
+
+-- and c says where its chosen quantifier is
+pub record SomeStepLocated (ts ws : List ℤ) (c : Quantified) : Type 0 where
+  pub room : ℕ
+  pub rule : Rule
+  pub quantifier : Quantifier
+  pub setting : ℕ
+  pub body : Rule
+  pub ready : StepReady ts ws room rule
+  pub locates : Locates rule quantifier setting body c
 
 -- the step's answer number, and its table where it has one
 unfoldable pub Stepped : Result Rule → ℕ → List ℤ → Type 0
@@ -95,14 +113,34 @@ pub record SomeRebuilding (ts ws : List ℤ) (room c : ℕ) (step : Step) (place
   pub body : Rule
   pub rebuilding : Rebuilding ts ws room c step places rule quantifier setting body
 
+-- what step 3 comes to for the body a, with its k bounds and the period P: the disjunction has no room; or it is made,
+-- or the truth value that it folds to
+unfoldable pub Planned : ℕ → ℕ → ℕ → ℕ → Rule → Plan → Type 0
+unfolding count weight fold disjunction
+Planned room P k x a TooLong =
+    let f = fold (disjunction P x a) in
+    Open f × (room ≤ count f + weight f)
+Planned room P k x a (Make step) =
+    (step ≡ Disjunction P k) ⊎ ((v : Bool) × (step ≡ Truth v) × (fold (disjunction P x a) ≡ Constant v))
+
 -- ---- what is built becomes the table
 
 -- the state in which nothing is built
 abbrev pub none-built : State
 none-built = record { used = 0; nodes = 0 }
 
+-- the table of the rule r, of n nodes, is in ts, and the work buffer is no longer than a table
+pub record Folding (ts : List ℤ) (n : ℕ) (ws : List ℤ) (r : Rule) : Type 0 where
+  pub has : HasTable ts r
+  pub counted : n ≡ count r
+  pub most : length ws ≤ most-words
+
+pub record SomeFolding (ts : List ℤ) (n : ℕ) (ws : List ℤ) : Type 0 where
+  pub rule : Rule
+  pub folding : Folding ts n ws rule
+
 -- the rule f is answered, where nothing was built before, and both buffers have exactly the room
-pub record Closing (ts ws : List ℤ) (room : ℕ) (folded : Folded) (f : Rule) : Type 0 where
+pub record Closing (ts ws : List ℤ) (room : ℕ) (folded : answer.Folded) (f : Rule) : Type 0 where
   pub gives : Gives ws none-built [] f folded
   pub formed : WellFormed f
   pub light : weight f < most-counted
@@ -110,7 +148,7 @@ pub record Closing (ts ws : List ℤ) (room : ℕ) (folded : Folded) (f : Rule) 
   pub work-room : length ws ≡ room
   pub most : room ≤ most-words
 
-pub record SomeClosing (ts ws : List ℤ) (room : ℕ) (folded : Folded) : Type 0 where
+pub record SomeClosing (ts ws : List ℤ) (room : ℕ) (folded : answer.Folded) : Type 0 where
   pub rule : Rule
   pub closing : Closing ts ws room folded rule
 
@@ -120,3 +158,13 @@ pub record FirstReady (ts ws : List ℤ) (room : ℕ) : Type 0 where
   pub table-room : length ts ≡ room
   pub work-room : length ws ≡ room
   pub most : room ≤ most-words
+
+-- the table of the rule r, not folded yet, is in ts, and both buffers have exactly the room
+pub record InPlace (ts ws : List ℤ) (room : ℕ) (r : Rule) : Type 0 where
+  pub has : HasTable ts r
+  pub table-room : length ts ≡ room
+  pub work-room : length ws ≡ room
+
+pub record SomeInPlace (ts ws : List ℤ) (room : ℕ) : Type 0 where
+  pub rule : Rule
+  pub ready : InPlace ts ws room rule

@@ -9,6 +9,7 @@ use steps::made::Step;
 use tables::words;
 use walks::fold;
 ghost use mathlib.Core.Path.{_≡_};
+ghost use mathlib.Core.List.{[]};
 ghost use Prim.Native.Nat.{ℕ};
 ghost use Rattle.rules.specs.Rule.{Quantifier, Rule};
 ghost use Rattle.rules.specs.Result.{given};
@@ -18,9 +19,11 @@ ghost use Rattle.rules.specs.Eliminate.{step-table};
 ghost use Rattle.rules.specs.Calls.{words as words-of, rule-of};
 ghost use Rattle.tables.specs.Checks.{Verdict};
 ghost use Rattle.tables.specs.declared.check.Checked.the-variants.{Table};
+ghost use Rattle.folding.specs.Answers.{Gives};
 ghost use Rattle.steps.specs.Making.{new-of};
 ghost use Rattle.elimination.specs.Stepping.{Stepped, sized, Rebuilding, SomeRebuilding};
-ghost use Rattle.elimination.specs.Stepping.{Closing, SomeClosing, FirstReady};
+ghost use Rattle.elimination.specs.Stepping.{none-built, Folding, SomeFolding, Closing, SomeClosing};
+ghost use Rattle.elimination.specs.Stepping.{FirstReady, InPlace, SomeInPlace};
 
 // The table with the step's new rule in the place of the chosen quantifier, node `chosen`; 6 where it has no room.
 pub fn rebuilt(
@@ -55,6 +58,26 @@ pub fn rebuilt(
     closed(table, work, room, folded)
 }
 
+// The rule of the table t, of n nodes, folded, is built where nothing was.
+fn folded(t: &[u8], n: usize, work: &mut [u8]) -> Folded
+    requires { ⌜ SomeFolding (words-of (now t)) n (words-of (now work)) ⌝ }
+    ensures { λ f. ⌜ ((r : Rule) → Folding (words-of (now (t .entry))) n (words-of (now (work .entry))) r
+        → Gives (words-of (now (work .exit))) none-built [] (fold-of r) f) ⌝ }
+{
+    let from = (n + 1) * 4;
+    let nothing = [0i64, 0, 0, 0, 0, 0, 0];
+    fold::fold(
+        &t[4..],
+        &t[from..],
+        0,
+        n + 1,
+        Change::Same,
+        &nothing,
+        work,
+        push::start(),
+    )
+}
+
 // "The input, folded, is the first step table".
 pub fn first(input: &[u8], n: usize, table: &mut [u8], work: &mut [u8], room: usize) -> u32
     requires { ⌜ Verdict (rule-of (now input)) (Table n)
@@ -62,18 +85,18 @@ pub fn first(input: &[u8], n: usize, table: &mut [u8], work: &mut [u8], room: us
     ensures { λ k. ⌜ ((r : Rule) → rule-of (now (input .entry)) ≡ given r
         → Stepped (step-table room r) k (words-of (now (table .exit)))) ⌝ }
 {
-    let from = (n + 1) * 4;
-    let nothing = [0i64, 0, 0, 0, 0, 0, 0];
-    let folded = fold::fold(
-        &input[4..],
-        &input[from..],
-        0,
-        n + 1,
-        Change::Same,
-        &nothing,
-        work,
-        push::start(),
-    );
+    let folded = folded(input, n, work);
+    closed(table, work, room, folded)
+}
+
+// The same, of an input that stands in the first step table's own place.
+pub fn first_here(table: &mut [u8], work: &mut [u8], room: usize) -> u32
+    requires { ⌜ SomeInPlace (words-of (now table)) (words-of (now work)) room ⌝ }
+    ensures { λ k. ⌜ ((r : Rule) → InPlace (words-of (now (table .entry))) (words-of (now (work .entry))) room r
+        → Stepped (step-table room r) k (words-of (now (table .exit)))) ⌝ }
+{
+    let n = words::natural(table, 0);
+    let folded = folded(table, n, work);
     closed(table, work, room, folded)
 }
 

@@ -2,6 +2,7 @@
 // one's place.
 use crate::locate;
 use crate::locate::Located;
+use crate::locate::Quantified;
 use crate::rebuild;
 use bodies::bounds;
 use bodies::multiples;
@@ -9,16 +10,28 @@ use builder::push;
 use literals::change::Change;
 use steps::made::Step;
 use steps::numbers;
+use steps::survey;
+use steps::survey::Survey;
 use walks::normal;
 use walks::normal::Normal;
 use whole::Multiple;
-ghost use Rattle.rules.specs.Rule.{Rule};
-ghost use Rattle.rules.specs.Eliminate.{for-all-step, normal-step, common-step, disjunction-step};
+ghost use mathlib.Core.Path.{_≡_};
+ghost use mathlib.Core.Bool.{true};
+ghost use Prim.Native.Nat.{ℕ};
+ghost use Rattle.rules.specs.Rule.{Quantifier, Rule};
+ghost use Rattle.rules.specs.Literals.{some-literal};
+ghost use Rattle.rules.specs.Steps.{normal as normal-of, disjuncts};
+ghost use Rattle.rules.specs.Eliminate.{over-limit, for-all-step, normal-step, common-step, disjunction-step};
 ghost use Rattle.rules.specs.Calls.{words as words-of};
-ghost use Rattle.elimination.specs.Stepping.{StepReady, SomeStepReady, Stepped};
+ghost use Rattle.steps.specs.Surveying.{Surveyed};
+ghost use Rattle.elimination.specs.Stepping.{Locates, StepReady, SomeStepReady, SomeStepLocated, Stepped};
+ghost use Rattle.elimination.specs.Stepping.{Planned};
 
 // "a literal number passes ±2,147,483,647, or a divisor passes 2,147,483,647"
 const NUMBER: u32 = 5;
+
+// "a step table needs more than the room"
+const ROOM: u32 = 6;
 
 // "D or P passes 4,096"
 const FACTOR: u32 = 7;
@@ -40,18 +53,19 @@ pub fn for_all(table: &mut [u8], work: &mut [u8], room: usize) -> u32
     rebuild::rebuilt(table, work, room, c.node, Step::ForAll, &none)
 }
 
-// 1. Normal form. It is built twice: at first only to see its numbers.
-pub fn normal_form(table: &mut [u8], work: &mut [u8], room: usize) -> u32
-    requires { ⌜ SomeStepReady (words-of (now table)) (words-of (now work)) room ⌝ }
-    ensures { λ n. ⌜ ((r : Rule) → StepReady (words-of (now (table .entry))) (words-of (now (work .entry))) room r
-        → Stepped (normal-step room r) n (words-of (now (table .exit)))) ⌝ }
+// Whether a number passes the limit in the normal form of the body. Where no c is at the limit, none does; else it is
+// built, only to see its numbers.
+fn normal_over(table: &[u8], work: &mut [u8], c: Quantified) -> bool
+    requires { ⌜ SomeStepLocated (words-of (now table)) (words-of (now work)) c ⌝ }
+    ensures { λ o. ⌜ ((room : ℕ) (r : Rule) (q : Quantifier) (x : ℕ) (a : Rule)
+        → StepReady (words-of (now (table .entry))) (words-of (now (work .entry))) room r → Locates r q x a c
+        → o ≡ some-literal over-limit (normal-of true (c .setting) a)) ⌝ }
 {
-    let located = locate::locate(table);
-    let Located::There(c) = located else {
-        return 0;
-    };
-    let entry = (c.node + 2) * 4;
     let start = (c.place + 2) * 4;
+    if !numbers::some_at_limit(&table[start..], c.end) {
+        return false;
+    }
+    let entry = (c.node + 2) * 4;
     let seen = normal::plain(
         &table[entry..],
         &table[start..],
@@ -62,8 +76,24 @@ pub fn normal_form(table: &mut [u8], work: &mut [u8], room: usize) -> u32
         push::start(),
     );
     let Normal::Made(_) = seen else {
-        return NUMBER;
+        return true;
     };
+    false
+}
+
+// 1. Normal form.
+pub fn normal_form(table: &mut [u8], work: &mut [u8], room: usize) -> u32
+    requires { ⌜ SomeStepReady (words-of (now table)) (words-of (now work)) room ⌝ }
+    ensures { λ n. ⌜ ((r : Rule) → StepReady (words-of (now (table .entry))) (words-of (now (work .entry))) room r
+        → Stepped (normal-step room r) n (words-of (now (table .exit)))) ⌝ }
+{
+    let located = locate::locate(table);
+    let Located::There(c) = located else {
+        return 0;
+    };
+    if normal_over(table, work, c) {
+        return NUMBER;
+    }
     let none = [0u32];
     rebuild::rebuilt(table, work, room, c.node, Step::NormalForm, &none)
 }
@@ -97,6 +127,29 @@ pub fn common_factor(table: &mut [u8], work: &mut [u8], room: usize) -> u32
     rebuild::rebuilt(table, work, room, c.node, Step::CommonFactor(d), &none)
 }
 
+// What step 3 comes to: a refusal by the room, or what is made.
+pub enum Plan {
+    TooLong,
+    Make(Step),
+}
+
+// A disjunct that stays open has an entry and a word at least, and each or between two has an entry and two words: n
+// that stay open need 5·n − 3 words or more.
+fn planned(seen: Survey, room: usize, period: usize, k: usize) -> Plan
+    ensures { λ r. ⌜ ((x : ℕ) (a : Rule) → Surveyed (disjuncts period x a) seen → Planned room period k x a r) ⌝ }
+{
+    let Survey::NoneTrue(many) = seen else {
+        return Plan::Make(Step::Truth(true));
+    };
+    if many == 0 {
+        return Plan::Make(Step::Truth(false));
+    }
+    if room / 5 + 1 < many {
+        return Plan::TooLong;
+    }
+    Plan::Make(Step::Disjunction(period, k))
+}
+
 // 3. Disjunction. "P over 4,096 (7) after step 2." A table has at most 1,365 bounds.
 pub fn disjunction(table: &mut [u8], work: &mut [u8], room: usize) -> u32
     requires { ⌜ SomeStepReady (words-of (now table)) (words-of (now work)) room ⌝ }
@@ -118,12 +171,20 @@ pub fn disjunction(table: &mut [u8], work: &mut [u8], room: usize) -> u32
     if numbers::disjuncts_over(&table[start..], c.end, c.setting, period, &places, k) {
         return NUMBER;
     }
-    rebuild::rebuilt(
-        table,
-        work,
-        room,
-        c.node,
-        Step::Disjunction(period, k),
+    let entry = (c.node + 2) * 4;
+    let seen = survey::of_disjuncts(
+        &table[entry..],
+        &table[start..],
+        c.node + 1,
+        c.place + 2,
+        c.setting,
+        period,
         &places,
-    )
+        k,
+    );
+    let plan = planned(seen, room, period, k);
+    let Plan::Make(step) = plan else {
+        return ROOM;
+    };
+    rebuild::rebuilt(table, work, room, c.node, step, &places)
 }

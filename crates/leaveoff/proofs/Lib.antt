@@ -1,9 +1,7 @@
-pub mod Values
-pub mod MatchingLaws
-pub mod QuantifierLaws
-pub mod MatchedLaws
 pub mod OutcomeLaws
-pub mod EliminateNumbers
-pub mod EliminateLaws
+pub mod StepNumbers
+pub mod FirstLaws
+pub mod LentLaws
 pub mod EliminatedLaws
+pub mod LeftOffLaws
 pub mod ResultLaws

@@ -10,20 +10,18 @@ use lib.Dec.{T}
 use lib.IntN.{ℤ}
 use mir.Syntax.{w32}
 use mir.Val.{SFits, toZ, ofZ}
-use Rattle.rules.specs.Rule.{Rule}
 use Rattle.rules.specs.Result.{Result, refused, given, _>>=_}
 use Rattle.rules.specs.Match.{matching}
-use Rattle.rules.specs.Answer.{Answer, refusal, match-answer}
+use Rattle.rules.specs.Answer.{Answer, match-answer}
 use Rattle.rules.specs.Calls.{rule-of, matched}
 use Rattle.rules.proofs.Refusals.{parts}
 use Rattle.rules.proofs.Numbers.{By, matching-by}
 use Rattle.rules.proofs.Meaning.{matching-right}
-use Rattle.tables.specs.Checks.{Verdict}
-use Rattle.tables.specs.declared.check.Checked.{Checked}
-use Rattle.tables.specs.declared.check.Checked.the-variants.{Not}
+use Rattle.literals.proofs.Literals.{values-again}
+use Rattle.matcher.specs.Outcome.{matching-of, result-of}
+use Rattle.matcher.specs.declared.outcome.Matched.{Matched}
 use Rattle.leaveoff.specs.Outcome.{answer-of, SaysWhether, packed, unpacked, Fits}
 use Rattle.leaveoff.specs.declared.answer.Answer as declared
-use Rattle.literals.proofs.Literals.{values-again}
 
 -- ---- packing
 
@@ -65,14 +63,6 @@ matched-once l s1 s2 s3 s4 s5 s6 a b e f = ap back (e ∙ sym f)
     back : Answer → declared.Answer
     back a = record { number = a .number; verdict = a .verdict; words = a .words; settings = a .settings }
 
--- a table that the check refuses
-pub table-refused : (l : List ℕ) (s1 s2 s3 s4 s5 s6 : ℤ) (k : ℕ) {v : Checked} → v ≡ Not k → Verdict (rule-of l) v
-    → matched l s1 s2 s3 s4 s5 s6 ≡ refusal k
-unfolding matched Verdict
-table-refused l s1 s2 s3 s4 s5 s6 k e h =
-    let values = s1 ∷ s2 ∷ s3 ∷ s4 ∷ s5 ∷ s6 ∷ [] in
-    ap (λ (x : Result Rule). match-answer (x >>= matching values)) (subst (Verdict (rule-of l)) e h)
-
 verdict-one : (b : Bool) → (let v : ℕ = cond b 1 2 in v ≡ 1) ↔ T b
 verdict-one true = (λ e. tt, λ t. refl)
 verdict-one false = (λ e. absurd (omega (arith, e)), λ t. absurd t)
@@ -113,3 +103,15 @@ pub matched-again : (l : List ℕ) {s1 s2 s3 s4 s5 s6 : ℤ} {a : Answer}
 unfolding matched
 matched-again l f1 f2 f3 f4 f5 f6 e =
     e ∙ ap (λ (vs : List ℤ). match-answer (rule-of l >>= matching vs)) (values-again f1 f2 f3 f4 f5 f6)
+
+-- an answer that says what matching gave: the definition's, and it tells whether the rule holds
+pub matched-answer : (l : List ℕ) {s1 s2 s3 s4 s5 s6 : ℤ} {a : Answer} {v m : Matched}
+    → SFits w32 s1 → SFits w32 s2 → SFits w32 s3 → SFits w32 s4 → SFits w32 s5 → SFits w32 s6
+    → v ≡ m → a ≡ match-answer (result-of m)
+    → result-of v ≡ matching-of l (toZ w32 (ofZ w32 s1) ∷ toZ w32 (ofZ w32 s2) ∷ toZ w32 (ofZ w32 s3)
+    ∷ toZ w32 (ofZ w32 s4) ∷ toZ w32 (ofZ w32 s5) ∷ toZ w32 (ofZ w32 s6) ∷ [])
+    → (a ≡ matched l s1 s2 s3 s4 s5 s6) × SaysWhether l (s1 ∷ s2 ∷ s3 ∷ s4 ∷ s5 ∷ s6 ∷ []) a
+unfolding matched matching-of
+matched-answer l {s1} {s2} {s3} {s4} {s5} {s6} f1 f2 f3 f4 f5 f6 i e g =
+    let is = matched-again l f1 f2 f3 f4 f5 f6 (e ∙ ap match-answer (ap result-of (sym i) ∙ g)) in
+    (is, subst (SaysWhether l (s1 ∷ s2 ∷ s3 ∷ s4 ∷ s5 ∷ s6 ∷ [])) (sym is) (says-whether l s1 s2 s3 s4 s5 s6))

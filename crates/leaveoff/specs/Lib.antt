@@ -1,4 +1,2 @@
-pub mod Matching
-pub mod Quantifiers
 pub mod Outcome
 pub mod Result

@@ -1,20 +1,20 @@
 -- The answers of the calls as the code gives them, and packed into 64 bits.
 -- Assumes nothing.
 use mathlib.Core.Path.{_≡_}
-use mathlib.Core.Bool.{Bool, cond}
 use mathlib.Core.List.{List}
 use Prim.Native.Nat.{ℕ, _+_, _*_, _/_, _%_, _<_, _≤_}
 use lib.Dec.{T}
-use lib.IntN.{ℤ}
+use lib.IntN.{ℤ, natAbs}
 use lib.ListN.{take}
 use Rattle.rules.specs.Sum.{Choice}
 use mathlib.Core.Logic.{_↔_, _⊎_}
 use Rattle.rules.specs.Rule.{Rule, Holds}
 use Rattle.rules.specs.Result.{Result, given, _>>=_}
 use Rattle.rules.specs.Eliminate.{eliminate}
+use Rattle.rules.specs.LeaveOff.{leave-off}
 use Rattle.rules.specs.Match.{choice}
 use Rattle.rules.specs.Answer.{Answer, occurs}
-use Rattle.rules.specs.Laws.{Same, QuantifierFree, free, Closed}
+use Rattle.rules.specs.Laws.{Same, QuantifierFree, free, Closed, Matters, MayGo}
 use Rattle.rules.specs.Calls.{Outcome, rule-of}
 use Rattle.tables.specs.declared.check.Checked.{Checked}
 use Rattle.tables.specs.declared.check.Checked.the-variants.{Table, Not}
@@ -23,10 +23,6 @@ use Rattle.leaveoff.specs.declared.answer.Answer as declared
 -- the paper's number and values of an answer
 abbrev pub answer-of : declared.Answer → Answer
 answer-of a = record { number = a .number; verdict = a .verdict; words = a .words; settings = a .settings }
-
--- "for matching 10, then 9"; 0 where neither is due
-abbrev pub due-number : Bool → Bool → ℕ
-due-number quantified in-range = cond quantified 10 (cond in-range 0 9)
 
 -- what matching answers: a verdict, and no table
 abbrev pub verdict-alone : ℕ → Answer
@@ -68,6 +64,24 @@ pub record Means (table output : List ℕ) (a : Answer) : Type 0 where
 
 unfoldable pub Eliminates : List ℕ → List ℕ → Answer → Type 0
 Eliminates table output a = a .number ≡ 0 → Means table output a
+
+-- ---- the leave-off test
+
+-- what the test of setting v makes of the rule that the bytes decode to, in so much room
+unfoldable pub test-of : List ℕ → ℤ → ℕ → Result Rule
+unfolding rule-of leave-off _>>=_
+test-of table v room = rule-of table >>= leave-off room v
+
+-- demand 3: whenever the test answers, verdict 1 says that two choices that differ in setting v alone are treated
+-- differently, and verdict 2 that no two such choices are; each is given exactly then
+pub record Tells (table : List ℕ) (v : ℤ) (a : Answer) : Type 0 where
+  pub rule : Rule
+  pub decodes : rule-of table ≡ given rule
+  pub matters : (a .verdict ≡ 1) ↔ Matters (natAbs v) rule
+  pub may-go : (a .verdict ≡ 2) ↔ MayGo (natAbs v) rule
+
+unfoldable pub TestsLine : List ℕ → ℤ → Answer → Type 0
+TestsLine table v a = a .number ≡ 0 → Tells table v a
 
 -- ---- packed
 

@@ -1,9 +1,7 @@
 // Elimination: an equivalent table without quantifiers, in lent memory.
-use crate::answer;
 use crate::answer::Answer;
-use crate::result;
+use crate::making;
 use elimination::rebuild;
-use elimination::rounds;
 use tables::check;
 use tables::check::Checked;
 use tables::words;
@@ -11,17 +9,7 @@ ghost use mathlib.Core.Path.{_≡_};
 ghost use lib.ListN.{length};
 ghost use Rattle.rules.specs.Calls.{words as words-of, eliminated};
 ghost use Rattle.elimination.specs.Stepping.{Stepped, FirstReady};
-ghost use Rattle.leaveoff.specs.Outcome.{answer-of, outcome-of, Eliminates, refusal-number, steps-of};
-
-// The number that refuses a table.
-fn number(c: Checked) -> u32
-    ensures { λ r. ⌜ refusal-number c r ⌝ }
-{
-    match c {
-        Checked::Table(_) => 0,
-        Checked::Not(k) => k,
-    }
-}
+ghost use Rattle.leaveoff.specs.Outcome.{answer-of, outcome-of, Eliminates, steps-of};
 
 // The number of the answer; where it is 0, the result's table is at the start of `out`. Both buffers have exactly the
 // room.
@@ -31,14 +19,13 @@ fn stepped(t: &[u8], out: &mut [u8], work: &mut [u8], room: usize) -> u32
 {
     let checked = check::check(t);
     let Checked::Table(n) = checked else {
-        return number(checked);
+        return making::number(checked);
     };
     let first = rebuild::first(t, n, out, work, room);
     if first != 0 {
         return first;
     }
-    let most = result::quantifiers(out);
-    rounds::rounds(out, work, room, most)
+    making::all_rounds(out, work, room)
 }
 
 // Elimination, on any bytes and any lent buffers.
@@ -50,10 +37,5 @@ pub fn eliminate(t: &[u8], out: &mut [u8], work: &mut [u8]) -> Answer
     let room = words::room(out.len(), work.len());
     let end = room * 4;
     let number = stepped(t, &mut out[..end], &mut work[..end], room);
-    words::zero(work);
-    if number != 0 {
-        words::zero(out);
-        return answer::refused(number);
-    }
-    result::result(out)
+    making::leave(number, out, work)
 }

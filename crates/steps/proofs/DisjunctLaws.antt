@@ -1,20 +1,17 @@
 -- One more disjunct in front of those that are answered: what the walk asks for it, and how the answers join.
 -- Assumes nothing.
-use mathlib.Core.Path.{_≡_, refl, sym, subst}
-use mathlib.Core.Bool.{true, false}
+use mathlib.Core.Path.{_≡_, sym, subst}
+use mathlib.Core.Bool.{Bool, true, false}
 use mathlib.Core.List.{List, _∷_}
 use Prim.Native.Nat.{ℕ, _≤_}
 use native.Mathlib.Omega.{arith}
-use lib.IntN.{ℤ, pos}
+use lib.IntN.{ℤ}
 use lib.ListN.{length}
-use Rattle.rules.specs.Sum.{Sum, number, setting}
-use Rattle.rules.specs.Rule.{Rule}
+use Rattle.rules.specs.Sum.{Sum, setting}
+use Rattle.rules.specs.Rule.{or, Rule, False}
 use Rattle.rules.specs.Table.{Node, most-words}
 use Rattle.rules.specs.Calls.{words}
-use Rattle.rules.specs.Fold.{fold, fold-join}
-use Rattle.rules.specs.Steps.{scaled}
-use Rattle.rules.specs.Laws.{WellFormed}
-use Rattle.rules.proofs.Sizes.{weight}
+use Rattle.rules.specs.Fold.{side, fold-sides, fold-join, fold}
 use Rattle.rules.proofs.Disjuncts.{fold-any}
 use Rattle.tables.proofs.WordLaws.{words-length}
 use Rattle.builder.specs.Built.{Built, junction}
@@ -22,13 +19,12 @@ use Rattle.builder.specs.declared.push.State.{State}
 use Rattle.folding.specs.Answers.{Gives, Sides, SomeSides, after, built-then, settled}
 use Rattle.folding.specs.declared.answers.Folded.{Folded}
 use Rattle.folding.proofs.AnswerLaws.{says-of, built-of, total-then, settled-join, some-sides-of}
-use Rattle.literals.specs.Changes.{Fair, Usable}
+use Rattle.literals.specs.Changes.{Fair}
 use Rattle.walks.specs.Walk.{changed, Ready, SomeReady}
 use Rattle.walks.proofs.FoldLaws.{changed-lighter}
 use Rattle.steps.specs.Disjoining.{Disjunct, SomeDisjunct, SomeFull}
 use Rattle.steps.specs.Put.{SomeBound}
 use Rattle.literals.specs.declared.change.Change.{Change}
-use Rattle.literals.specs.declared.change.Change.the-variants.{Same, Scaled, Far, Full}
 
 -- ---- a buffer keeps its room
 
@@ -83,6 +79,13 @@ some-disjunct-ready {others = others} some s e = record {
   ready = disjunct-ready (some .disjunct) s e;
 }
 
+-- one that is false changes nothing
+pub false-disjunct : (ws : List ℤ) (b : State) (ds : List Node) (d : Rule) (l : List Rule) (f : Folded)
+    → fold d ≡ False → Gives ws b ds (fold-any l) f → Gives ws b ds (fold-any (d ∷ l)) f
+unfolding fold-any fold-join side fold-sides
+false-disjunct ws b ds d l f e h =
+    subst (λ (r : Rule). Gives ws b ds (fold-join or r (fold-any l)) f) (sym e) h
+
 -- the join of the new disjunct and of those that are answered
 pub disjunct-answered : (vs : List ℤ) (b : State) (ds : List Node) (d : Rule) (l : List Rule) (r : Folded)
     → Gives vs b ds (fold-join (junction false) (fold d) (fold-any l)) r → Gives vs b ds (fold-any (d ∷ l)) r
@@ -105,8 +108,8 @@ module _ {es bs : List ℤ} {n p : ℕ} {c : Change} {ws : List ℤ} {b : State}
         (answered (subst (λ (s : Sum). Disjunct es bs n p c s ws b a l ds others) (sym same) d))
 
 -- what is asked to read a bound
-pub some-bound : {es bs : List ℤ} {n p x j q : ℕ} {ws : List ℤ} {b : State} {others : Folded}
-    → SomeFull es bs n p x j q ws b others → SomeBound bs x q
+pub some-bound : {es bs : List ℤ} {n p x j q : ℕ} {told : Bool} {ws : List ℤ} {b : State} {others : Folded}
+    → SomeFull es bs n p x j q told ws b others → SomeBound bs x q
 some-bound f = record {
   bound = f .bound;
   at = f .at;

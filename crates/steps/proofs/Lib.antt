@@ -1,10 +1,15 @@
 pub mod SumLaws
 pub mod NumberLaws
+pub mod BlockLaws
 pub mod DisjunctionWeights
 pub mod DisjunctLaws
 pub mod DisjunctionLaws
 pub mod BoundsLaws
 pub mod PeriodLaws
+pub mod InBlockLaws
+pub mod SurveyLaws
+pub mod RowLaws
+pub mod SurveyOutcomes
 pub mod MakingLaws
 pub mod ReplaceLaws
 pub mod AroundLaws

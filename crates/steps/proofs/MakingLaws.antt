@@ -6,15 +6,14 @@ use mathlib.Core.Bool.{Bool, true, false, not, _||_}
 use mathlib.Core.List.{List}
 use Prim.Native.Nat.{ℕ, zero, suc, _+_, _*_, _<_, _≤_}
 use native.Mathlib.Omega.{arith}
-use lib.Dec.{T, leb, le→leb}
+use lib.Dec.{T}
 use lib.IntN.{ℤ, pos}
 use lib.ListN.{length, getD, drop, set}
-use Rattle.whole.proofs.Tests.{T-and}
 use Rattle.whole.proofs.Divisibility.{divides-zero}
 use Rattle.rules.specs.Sum.{Sum, factor, put, number, setting, limit, all-within}
 use Rattle.rules.specs.Rule.{Quantifier, for-some, for-all, Test, divisible, passes}
 use Rattle.rules.specs.Rule.{Rule, Constant, Not, Literal, Bind, Some}
-use Rattle.rules.specs.Table.{Node, bind-node, body, nodes, most-words, is-divisor}
+use Rattle.rules.specs.Table.{Node, bind-node, body, nodes, most-words}
 use Rattle.rules.specs.Fold.{fold-not, fold-literal, fold-join, fold}
 use Rattle.rules.specs.Literals.{some-literal, map-literals}
 use Rattle.rules.specs.Steps.{normal, scale-literal, scaled, disjunction}
@@ -34,7 +33,7 @@ use Rattle.tables.proofs.WordLaws.{words-from, words-length, number-of}
 use Rattle.tables.proofs.WalkLaws.{part}
 use Rattle.tables.proofs.Standings.{body-word, under-bind, inside-bodies}
 use Rattle.tables.proofs.Parts.{few-part, root-there, bind-there}
-use Rattle.builder.specs.Built.{Built, Countable, quantifier, junction}
+use Rattle.builder.specs.Built.{Built, quantifier, junction}
 use Rattle.builder.specs.declared.push.State.{State}
 use Rattle.builder.proofs.BuiltLaws.{built-countable}
 use Rattle.folding.specs.Answers.{Gives, Answered, Sides, SomeSides, after, built-then, settled}
@@ -42,9 +41,10 @@ use Rattle.folding.specs.declared.answers.Folded.{Folded}
 use Rattle.folding.specs.declared.answers.Folded.the-variants.{Known, Pushed}
 use Rattle.folding.proofs.AnswerLaws.{built-of, total-then, sides-of, some-sides-of}
 use Rattle.literals.specs.Changes.{becomes, Fair, Usable}
+use Rattle.walks.specs.Literals.{Puttable}
 use Rattle.walks.specs.Walk.{changed, Ready}
 use Rattle.walks.specs.Normal.{NormalReady, Normalled}
-use Rattle.literals.specs.Literal.{Marked, SomeTest}
+use Rattle.literals.specs.Literal.{Marked}
 use Rattle.steps.specs.Disjoining.{Disjoining, SomeDisjoining}
 use Rattle.steps.specs.Making.{new-of, FairStep, Making, BodyMaking, SomeBodyMaking}
 use Rattle.steps.specs.Making.{FairMaking, SomeFairMaking}
@@ -53,7 +53,7 @@ use Rattle.literals.specs.declared.change.Change.the-variants.{Same, Scaled}
 use Rattle.walks.specs.declared.normal.Normal.{Normal}
 use Rattle.walks.specs.declared.normal.Normal.the-variants.{OverLimit, Made}
 use Rattle.steps.specs.declared.made.Step.{Step}
-use Rattle.steps.specs.declared.made.Step.the-variants.{ForAll, NormalForm, CommonFactor, Disjunction}
+use Rattle.steps.specs.declared.made.Step.the-variants.{ForAll, NormalForm, CommonFactor, Disjunction, Truth}
 
 -- ---- the body
 
@@ -228,10 +228,6 @@ first-within : (p q : Bool) → T (not (p || q)) → T (not p)
 first-within true q h = h
 first-within false q h = tt
 
-divisor-fair : (D : ℕ) → 1 ≤ D → D ≤ most-period → T (is-divisor (pos D))
-unfolding is-divisor
-divisor-fair D h k = T-and (leb 1 D) (leb D limit) .1 (le→leb 1 D h, le→leb D limit (omega arith))
-
 -- a buffer that keeps its length keeps its room
 pub same-room : (k l : List ℕ) → length k ≡ length l → length (words l) ≤ most-words → length (words k) ≤ most-words
 same-room k l e h = omega (arith, e, words-length k, words-length l)
@@ -247,16 +243,16 @@ module _ {es bs : List ℤ} {n p x D : ℕ} {ws : List ℤ} {b : State} {a : Rul
   light : 2 + weight multiplied + weight divided ≤ 2 + weight a + 9
   light = unfold scaled weight in scaled-lighter D x a (m .setting .0) (m .setting .1) (m .formed)
 
-  pub divisor-asks : (s : Sum) → s ≡ setting x → SomeTest 6 D × (length s ≡ 7) × Countable b 9
-  divisor-asks s e = (
-    record {
+  pub divisor-asks : (s : Sum) → s ≡ setting x → Puttable 6 D s b
+  divisor-asks s e = record {
+    some = record {
       test = divisible true D;
       marked = record { same-kind = refl; same-divisor = refl };
-      fair = divisor-fair D (fair .0) (fair .1);
-    },
-    ap length e ∙ (unfold setting in seven-put x (pos 1) (number (pos 0)) (omega (arith, m .setting)) refl),
-    built-countable ws b ds 9 (m .built) (omega (arith, m .small)),
-  )
+      small = omega (arith, fair .1);
+    };
+    seven = ap length e ∙ (unfold setting in seven-put x (pos 1) (number (pos 0)) (omega (arith, m .setting)) refl);
+    countable = built-countable ws b ds 9 (m .built) (omega (arith, m .small));
+  }
 
   module _ (s : Sum) (e : s ≡ setting x) (ws₁ : List ℤ) (right : Folded)
       (puts : (t : Test) (l : List Node) → Marked 6 D t → Built ws b l → Gives ws₁ b l (fold-literal t s) right) where
@@ -437,3 +433,10 @@ module _ (le lb : List ℕ) {n p : ℕ} {step : Step} {places : List ℕ} {nothi
     pub read-gives : (vs : List ℤ) (f : Folded) → Gives vs b ds (fold (new-of step read a)) f
         → Gives vs b ds (fold (new-of step x a)) f
     read-gives vs f h = subst (λ (v : ℕ). Gives vs b ds (fold (new-of step v a)) f) setting-read h
+
+-- a truth value is answered, and nothing is put
+pub truth-gives : {es bs : List ℤ} {n p x : ℕ} {places : List ℕ} {ws : List ℤ} {b : State} {a : Rule} {ds : List Node}
+    (v : Bool) → FairMaking es bs n p (Truth v) x places ws b a ds
+    → Gives ws b ds (fold (new-of (Truth v) x a)) (Known v)
+unfolding new-of fold Gives
+truth-gives v m = (refl, m .making .built)

@@ -1,13 +1,19 @@
--- Whether a number passes the limit: over the literals of a body that is changed, and over the bounds of step 3.
+-- Whether a number is at the limit, or passes it: over the literals of a body, of one that is changed, and over the
+-- bounds of step 3.
 -- Assumes nothing.
 use mathlib.Core.Path.{_≡_, refl, sym, _∙_, ap, ap₂, subst}
 use mathlib.Core.Bool.{Bool, true, false, _||_}
 use mathlib.Core.List.{List, [], _∷_, _++_}
 use Prim.Native.Nat.{ℕ, zero, suc, _+_, _*_, _<_, _≤_}
 use native.Mathlib.Omega.{arith}
-use lib.IntN.{ℤ, pos}
+use borrow.Author.Tests.{eq-eqb, ne-eqb}
+use lib.Dec.{T, eqb, eqb→eq}
+use lib.IntN.{ℤ, pos, negsuc, natAbs}
 use lib.ListN.{length, getD, drop}
-use Rattle.rules.specs.Sum.{Sum, number}
+use mir.Syntax.{w32}
+use mir.Val.{SFits, toZ, ofZ}
+use mir.Facts.{toZ-ofZ}
+use Rattle.rules.specs.Sum.{Sum, factor, limit, number}
 use Rattle.rules.specs.Rule.{Test, Rule, Constant, Join, Not, Literal, Bind}
 use Rattle.rules.specs.Literals.{some-literal, map-literals, gather}
 use Rattle.rules.specs.Steps.{bounds, far-left, body-at, disjunction}
@@ -22,11 +28,12 @@ use Rattle.bodies.specs.Cursor as cursor
 use Rattle.bodies.specs.Cursor.{literals-of}
 use Rattle.bodies.proofs.CursorLaws.{literal-inside}
 use Rattle.bodies.proofs.ScanLaws.{Passed}
-use Rattle.literals.specs.Literal.{LiteralAt, SomeLiteral}
+use Rattle.literals.specs.Literal.{start-of, LiteralAt, SomeLiteral}
 use Rattle.literals.specs.Changes.{becomes}
+use Rattle.literals.proofs.Literals.{literal-word}
 use Rattle.walks.specs.Walk.{changed}
 use Rattle.steps.specs.Put.{SomeBound}
-use Rattle.steps.specs.Numbers.{SomeBounds}
+use Rattle.steps.specs.Numbers.{at-limit, SomeBounds}
 use Rattle.literals.specs.declared.change.Change.{Change}
 use Rattle.literals.specs.declared.change.Change.the-variants.{Far, Full}
 use Rattle.steps.proofs.SumLaws.{above}
@@ -81,52 +88,91 @@ some-append q (k ∷ ks) ls =
     ap (λ (b : Bool). q (k .0) (k .1) || b) (some-append q ks ls)
     ∙ sym (or-assoc (q (k .0) (k .1)) (some-of q ks) (some-of q ls))
 
-module _ (p : Test → Sum → Bool) (g : Test → Sum → Rule) where
-  abbrev within-made : Test → Sum → Bool
-  within-made t s = some-literal p (g t s)
+-- in a body, it is one of its literals
+some-gathered : (q : Test → Sum → Bool) (a : Rule) → some-literal q a ≡ some-of q (literals-of a)
+unfolding some-literal some-of literals-of gather
+some-gathered q (Constant b) = refl
+some-gathered q (Join j a b) =
+    ap₂ _||_ (some-gathered q a) (some-gathered q b) ∙ sym (some-append q (literals-of a) (literals-of b))
+some-gathered q (Not a) = some-gathered q a
+some-gathered q (Literal t s) = last (q t s)
+  where
+    last : (b : Bool) → b ≡ (b || false)
+    last true = refl
+    last false = refl
+some-gathered q (Bind r v a) = some-gathered q a
 
-  -- in a body whose literals are made anew, it is some literal's
-  some-made : (a : Rule) → some-literal p (map-literals g a) ≡ some-of within-made (literals-of a)
-  unfolding some-literal map-literals some-of literals-of gather
+module _ (p : Test → Sum → Bool) (g : Test → Sum → Rule) where
+  -- in a body whose literals are made anew, it is in what is made of one
+  some-made : (a : Rule) → some-literal p (map-literals g a) ≡ some-literal (λ t s. some-literal p (g t s)) a
+  unfolding some-literal map-literals
   some-made (Constant b) = refl
-  some-made (Join j a b) =
-      ap₂ _||_ (some-made a) (some-made b) ∙ sym (some-append within-made (literals-of a) (literals-of b))
+  some-made (Join j a b) = ap₂ _||_ (some-made a) (some-made b)
   some-made (Not a) = some-made a
-  some-made (Literal t s) = last (within-made t s)
-    where
-      last : (b : Bool) → b ≡ (b || false)
-      last true = refl
-      last false = refl
+  some-made (Literal t s) = refl
   some-made (Bind q v a) = some-made a
+
+module _ (q : Test → Sum → Bool) where
+  -- some of these literals is as q says, or none is
+  abbrev pub Found : Bool → Passed
+  Found b ls = b ≡ some-of q ls
+
+  pub none-yet : Found false []
+  unfolding some-of
+  none-yet = refl
+
+  pub none-here : (t : Test) (s : Sum) (ks : List (Test × Sum)) → Found false ks → q t s ≡ false
+      → Found false (ks ++ ((t, s) ∷ []))
+  unfolding some-of
+  none-here t s ks e f = or-second (sym e) (or-second f refl) ∙ sym (some-append q ks ((t, s) ∷ []))
+
+  pub one-here : (t : Test) (s : Sum) (ls ks : List (Test × Sum)) → Found false ks → q t s ≡ true
+      → Found true (ks ++ ((t, s) ∷ ls))
+  unfolding some-of
+  one-here t s ls ks e f = or-second (sym e) (or-first _ f) ∙ sym (some-append q ks ((t, s) ∷ ls))
+
+  pub found-body : {b : Bool} (a : Rule) → Found b (literals-of a) → b ≡ some-literal q a
+  found-body a e = e ∙ sym (some-gathered q a)
 
 module _ (c : Change) (u : Sum) where
   -- a number of a literal passes the limit, once it is changed
   abbrev pub over-changed : Test → Sum → Bool
   over-changed t s = some-literal over-limit (becomes c u t s)
 
-  -- some of these literals is such a one, or none is
-  abbrev pub Over : Bool → Passed
-  Over b ls = b ≡ some-of over-changed ls
-
-  pub none-yet : Over false []
-  unfolding some-of
-  none-yet = refl
-
-  pub none-here : (t : Test) (s : Sum) (ks : List (Test × Sum)) → Over false ks → over-changed t s ≡ false
-      → Over false (ks ++ ((t, s) ∷ []))
-  unfolding some-of
-  none-here t s ks e f =
-      or-second (sym e) (or-second f refl) ∙ sym (some-append over-changed ks ((t, s) ∷ []))
-
-  pub one-here : (t : Test) (s : Sum) (ls ks : List (Test × Sum)) → Over false ks → over-changed t s ≡ true
-      → Over true (ks ++ ((t, s) ∷ ls))
-  unfolding some-of
-  one-here t s ls ks e f =
-      or-second (sym e) (or-first _ f) ∙ sym (some-append over-changed ks ((t, s) ∷ ls))
-
-  pub over-body : {b : Bool} (a : Rule) → Over b (literals-of a) → b ≡ some-literal over-limit (changed c u a)
+  pub over-body : {b : Bool} (a : Rule) → Found over-changed b (literals-of a)
+      → b ≡ some-literal over-limit (changed c u a)
   unfolding changed
-  over-body a e = e ∙ sym (some-made over-limit (becomes c u) a)
+  over-body a e = found-body over-changed a e ∙ sym (some-made over-limit (becomes c u) a)
+
+-- ---- c at the limit
+
+module _ {c : ℤ} (fits : SFits w32 c) where
+  -- read as bits: 2,147,483,649 are those of −2,147,483,647
+  lowest-bits : ¬ (ofZ w32 c ≡ limit) → eqb (ofZ w32 c) 2147483649 ≡ eqb (natAbs c) limit
+  lowest-bits = by c fits
+    where
+      by : (c : ℤ) → SFits w32 c → ¬ (ofZ w32 c ≡ limit) → eqb (ofZ w32 c) 2147483649 ≡ eqb (natAbs c) limit
+      by (pos n) f other = ne-eqb n 2147483649 (λ e. omega (arith, f .sfits)) ∙ sym (ne-eqb n limit other)
+      by (negsuc n) f other = go (eqb (suc n) limit) refl
+        where
+          go : (b : Bool) → eqb (suc n) limit ≡ b → eqb (ofZ w32 (negsuc n)) 2147483649 ≡ b
+          go true e = eq-eqb (ofZ w32 (negsuc n)) 2147483649 (omega (arith, eqb→eq (suc n) limit (subst T (sym e) tt)))
+          go false e = ne-eqb (ofZ w32 (negsuc n)) 2147483649
+              (λ i. absurd (subst T (sym (eq-eqb (suc n) limit (omega (arith, i))) ∙ e) tt))
+
+  module _ {ws : List ℤ} {at : ℕ} (here : c ≡ getD ws at (pos 0)) {n : ℕ} {t : Test} {s : Sum} (l : LiteralAt ws n t s)
+      (starts : at ≡ start-of t) where
+    constant-is : c ≡ factor 0 s
+    constant-is =
+        let first : at ≡ start-of t + 0 = omega (arith, starts) in
+        here ∙ ap (λ (i : ℕ). getD ws i (pos 0)) first ∙ literal-word t 0 l (omega arith)
+
+    pub highest : ofZ w32 c ≡ limit → true ≡ at-limit t s
+    highest e =
+        ap (λ (z : ℤ). eqb (natAbs z) limit) (ap (toZ w32) (sym e) ∙ toZ-ofZ fits ∙ constant-is)
+
+    pub lowest-decides : ¬ (ofZ w32 c ≡ limit) → eqb (ofZ w32 c) 2147483649 ≡ at-limit t s
+    lowest-decides other = lowest-bits other ∙ ap (λ (z : ℤ). eqb (natAbs z) limit) constant-is
 
 -- ---- the disjuncts of one j
 

@@ -115,7 +115,10 @@ module _ {bs : List ℤ} {x p : ℕ} {b : Sum} (l : BoundAt bs x p b) where
       by (no f) = subst (λ (y : ℤ). natAbs y ≤ limit) (sym (bound-other i f))
           (omega (arith, negated-size (factor i (l .sum)), within-at limit (l .sum) i (l .formed .1)))
 
-  bound-seven : InRange x → length b ≡ 7
+  pub bound-within : T (all-within limit b)
+  bound-within = all-within-of limit b bound-small
+
+  pub bound-seven : InRange x → length b ≡ 7
   unfolding negate
   bound-seven h =
       ap length (l .bound-is) ∙ length-scale (negsuc 0) (put x (pos 0) (l .sum))

@@ -1,4 +1,6 @@
 pub mod Put
 pub mod Numbers
+pub mod Blocks
+pub mod Surveying
 pub mod Disjoining
 pub mod Making

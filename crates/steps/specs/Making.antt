@@ -9,7 +9,7 @@ use lib.Dec.{T}
 use lib.IntN.{ℤ, pos}
 use lib.ListN.{length, drop}
 use Rattle.rules.specs.Sum.{Sum, number}
-use Rattle.rules.specs.Rule.{Quantifier, Rule, Bind, Some}
+use Rattle.rules.specs.Rule.{Quantifier, Rule, Constant, Bind, Some}
 use Rattle.rules.specs.Table.{Node, most-words}
 use Rattle.rules.specs.Fold.{fold}
 use Rattle.rules.specs.Literals.{some-literal}
@@ -25,7 +25,7 @@ use Rattle.bodies.specs.Body.{BoundsAt, chosen-number, chosen-place}
 use Rattle.walks.specs.Chain.{unary}
 use Rattle.steps.specs.Disjoining.{most-made}
 use Rattle.steps.specs.declared.made.Step.{Step}
-use Rattle.steps.specs.declared.made.Step.the-variants.{ForAll, NormalForm, CommonFactor, Disjunction}
+use Rattle.steps.specs.declared.made.Step.the-variants.{ForAll, NormalForm, CommonFactor, Disjunction, Truth}
 
 -- the new rule for the chosen quantifier with setting x and body a
 unfoldable pub new-of : Step → ℕ → Rule → Rule
@@ -34,6 +34,7 @@ new-of ForAll x a = by-some x a
 new-of NormalForm x a = Some x (normal true x a)
 new-of (CommonFactor D) x a = Some x (scaled D x a)
 new-of (Disjunction P k) x a = disjunction P x a
+new-of (Truth v) x a = Constant v
 
 -- the step's own numbers: D and P are not refused, and the k bounds of the body, whose bodies are bs, are in their
 -- places
@@ -43,6 +44,7 @@ FairStep NormalForm bs places x a = Unit {0}
 FairStep (CommonFactor D) bs places x a = (1 ≤ D) × (D ≤ most-period)
 FairStep (Disjunction P k) bs places x a =
     (1 ≤ P) × (P ≤ most-period) × (k ≤ 1365) × BoundsAt bs x places k (bounds x a)
+FairStep (Truth v) bs places x a = Unit {0}
 
 -- the new rule can be built: no number of it passes the limit, and its words can be counted
 pub record Makeable (step : Step) (bs : List ℤ) (places : List ℕ) (x : ℕ) (a : Rule) : Type 0 where

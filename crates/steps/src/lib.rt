@@ -1,6 +1,8 @@
 // What each step makes of the chosen quantifier, and of what stands around it.
 pub mod around;
+pub mod blocks;
 pub mod disjunction;
 pub mod made;
 pub mod numbers;
 pub mod sums;
+pub mod survey;

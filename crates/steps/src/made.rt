@@ -25,12 +25,13 @@ ghost use Rattle.steps.specs.Making.{FairMaking, SomeFairMaking};
 ghost use Rattle.steps.specs.declared.made.Step.the-variants.{ForAll, NormalForm, CommonFactor};
 
 // "A for-all is first replaced by not, for some, not"; normal form; the common factor D; the disjunction over the
-// period P, of a body with so many bounds.
+// period P, of a body with so many bounds; the truth value that it is known to fold to.
 pub enum Step {
     ForAll,
     NormalForm,
     CommonFactor(usize),
     Disjunction(usize, usize),
+    Truth(bool),
 }
 
 // "not, for some, not" of the body that starts these entries and bodies, as this node at this place.
@@ -156,6 +157,7 @@ fn of_body(
         Step::Disjunction(period, k) => {
             disjunction::disjunction(entries, bodies, node, place, x, period, places, k, out, b)
         }
+        Step::Truth(v) => Folded::Known(v),
     }
 }
 

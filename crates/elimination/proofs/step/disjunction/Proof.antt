@@ -1,4 +1,5 @@
--- `step::disjunction` meets its contract: P passes 4,096, or a number the limit, or the disjunction is rebuilt.
+-- `step::disjunction` meets its contract: P passes 4,096, or a number the limit, or the disjunction the
+-- room, or what is planned is rebuilt.
 -- Assumes nothing.
 use mathlib.Core.Path.{_≡_, refl}
 use mathlib.Core.List.{List}
@@ -12,11 +13,13 @@ use native.Mathlib.Omega.{arith}
 use borrow.Author.Needs.{needs}
 use Rattle.rules.specs.Rule.{Rule}
 use Rattle.rules.specs.Calls.{words}
-use Rattle.elimination.specs.Stepping.{StepReady}
+use Rattle.elimination.specs.Stepping.{StepReady, Planned}
 use Rattle.elimination.proofs.StepLaws.{stays, nowhere, disjunction-none, Placed, placed, rebuilding, places-near}
-use Rattle.elimination.proofs.StepLaws.{body-within, the-body, some-body, in-range, multiple-over, multiple-least}
+use Rattle.elimination.proofs.StepLaws.{entry-within, body-within, the-body, some-body, in-range}
+use Rattle.elimination.proofs.StepLaws.{multiple-over, multiple-least}
 use Rattle.elimination.proofs.StepLaws.{period-over, room-for-bounds, fair-period, some-bounds, new-disjunction}
-use Rattle.elimination.proofs.StepLaws.{disjuncts-over, disjunction-stepped}
+use Rattle.elimination.proofs.StepLaws.{disjuncts-over, body-judged, survey-asks, too-long, new-planned}
+use Rattle.elimination.proofs.StepLaws.{planned-stepped}
 use Rattle.elimination.proofs.step.disjunction.Statement.{statement}
 use Rattle.elimination.proofs.step.disjunction.Tie as tie
 
@@ -38,7 +41,8 @@ the-place : (c : tie.After-known-told)
     (c .before .located .given .0 .0)
 the-place c = place c (start c .pre .rule) (start c .pre .ready)
 
--- the ways back: from the call that finds P, from what it tells, from the bounds, from the test of the numbers
+-- the ways back: from the call that finds P, from what it tells, from the bounds, from the test of the numbers, from the
+-- survey
 abbrev located : tie.After-period → tie.After-known-told
 located c = c .before .before .before .before
 
@@ -50,6 +54,9 @@ told c = c .before .before .before .before
 
 abbrev collected : tie.After-disjuncts-over → tie.After-collect
 collected c = c .before .before .before .before .before
+
+abbrev fitting : tie.After-of-disjuncts → tie.Else1
+fitting c = c .before .before .before .before .before .before .before .before
 
 -- P, as it is told, is the period
 abbrev least : tie.After-known-told2 → ℕ
@@ -79,6 +86,25 @@ found c r ready = c .collect .ensures _ _ (the-body (place (located (call (told 
 
 long : (c : tie.After-collect) → length (places c) ≡ 1365
 long c = c .collect .kept .1 .1 .1 .0
+
+-- what is planned for the body
+abbrev bounds-of : tie.After-planned → tie.After-collect
+bounds-of c = collected (fitting (c .before) .before)
+
+plan-is : (c : tie.After-planned) (r : Rule)
+    (ready : let s = start (located (call (told (bounds-of c)))) in
+    StepReady (words (s .args .table .now)) (words (s .args .work .now)) (s .args .room) r)
+    → let k = bounds-of c in
+    let at = located (call (told k)) in
+    Planned (start at .args .room) (least (told k)) (k .collect .result) (at .before .located .given .0 .0 .setting)
+    (place at r ready .body) (c .planned .result)
+plan-is c r ready =
+    let seen = c .before in
+    let k = bounds-of c in
+    let p = place (located (call (told k))) r ready in
+    let bounds = found k r ready in
+    c .planned .ensures _ _ (seen .of-disjuncts .ensures _
+    (body-judged p _ (period-is (told k) r ready) _ _ bounds (long k)) bounds)
 
 locate-requires : tie.Need-locate-requires
 locate-requires c κs = let pre = c .before .before .before .pre in record { rule = pre .rule; has = pre .ready .has }
@@ -185,46 +211,123 @@ returns-3 c = λ r ready.
     disjuncts-over p _ (period-is (told k) r ready) _ _ bounds (long k) _ (c .if1 .taken)
     (over .disjuncts-over .ensures _ _ (the-body p) bounds)
 
+add-entry : tie.Need-add-entry
+add-entry c = omega (arith, places-near (the-place (located (call (told (collected (c .before .before)))))) .0)
+
+mul-entry : tie.Need-mul-entry
+mul-entry c = omega (arith, places-near (the-place (located (call (told (collected (c .before .before)))))) .0)
+
+sub-of-disjuncts : tie.Need-sub-of-disjuncts
+sub-of-disjuncts c = entry-within (the-place (located (call (told (collected (c .before .before))))))
+
+part-of-disjuncts-start : tie.Need-part-of-disjuncts-start
+part-of-disjuncts-start c = entry-within (the-place (located (call (told (collected (c .before .before .before))))))
+
+part-of-disjuncts-end : tie.Need-part-of-disjuncts-end
+part-of-disjuncts-end c = search needs
+
+sub-of-disjuncts-2 : tie.Need-sub-of-disjuncts-2
+sub-of-disjuncts-2 c = body-within (the-place (located (call (told (collected (c .before .before .before .before))))))
+
+part-of-disjuncts-start-2 : tie.Need-part-of-disjuncts-start-2
+part-of-disjuncts-start-2 c =
+    body-within (the-place (located (call (told (collected (c .before .before .before .before))))))
+
+part-of-disjuncts-end-2 : tie.Need-part-of-disjuncts-end-2
+part-of-disjuncts-end-2 c = search needs
+
+add-of-disjuncts : tie.Need-add-of-disjuncts
+add-of-disjuncts c =
+    let over = c .before .before .before .before .before .before in
+    omega (arith, places-near (the-place (located (call (told (collected over))))) .0)
+
+add-of-disjuncts-2 : tie.Need-add-of-disjuncts-2
+add-of-disjuncts-2 c =
+    let over = c .before .before .before .before .before .before .before in
+    omega (arith, places-near (the-place (located (call (told (collected over))))) .1)
+
+slice-aggregate-of-disjuncts : tie.Need-slice-aggregate-of-disjuncts
+slice-aggregate-of-disjuncts c = search needs
+
+of-disjuncts-requires : tie.Need-of-disjuncts-requires
+of-disjuncts-requires c κs =
+    let k = collected (c .before .before .before .before .before .before .before .before) in
+    let at = located (call (told k)) in
+    let pre = start at .pre in
+    let p = place at (pre .rule) (pre .ready) in
+    survey-asks p _ (period-is (told k) (pre .rule) (pre .ready)) _ _ (found k (pre .rule) (pre .ready)) (long k)
+
+planned-requires : tie.Need-planned-requires
+planned-requires c κs = search needs
+
+enum-known-plan : tie.Need-enum-known-plan
+enum-known-plan c = search needs
+
+enum-told-3 : tie.Need-enum-told-3
+enum-told-3 c = search needs
+
+same-length-4 : tie.Need-same-length-4
+same-length-4 c = search needs
+
+returns-4 : tie.Need-returns-4
+returns-4 c = λ r ready.
+    let plan = c .before .before in
+    let test = fitting (plan .before) in
+    let k = bounds-of plan in
+    let p = place (located (call (told k))) r ready in
+    let bounds = found k r ready in
+    let least = period-is (told k) r ready in
+    let new = new-disjunction p _ least _ _ bounds (long k) (test .if1 .left)
+    (test .before .disjuncts-over .ensures _ _ (the-body p) bounds) in
+    too-long p _ least _ _ bounds (long k) new _ (c .enum-told3 .given .1) (plan-is plan r ready)
+
 slice-aggregate-rebuilt : tie.Need-slice-aggregate-rebuilt
 slice-aggregate-rebuilt c = search needs
 
 rebuilt-requires : tie.Need-rebuilt-requires
 rebuilt-requires c κs =
-    let test = c .before .before .before in
-    let over = test .before in
-    let k = collected over in
+    let made = c .before .before .before .before in
+    let plan = made .before .before in
+    let test = fitting (plan .before) in
+    let k = bounds-of plan in
     let at = located (call (told k)) in
     let pre = start at .pre in
     let p = place at (pre .rule) (pre .ready) in
     let bounds = found k (pre .rule) (pre .ready) in
+    let least = period-is (told k) (pre .rule) (pre .ready) in
+    let new = new-disjunction p _ least _ _ bounds (long k) (test .if1 .left)
+    (test .before .disjuncts-over .ensures _ _ (the-body p) bounds) in
     record {
       rule = pre .rule;
       quantifier = p .quantifier;
       setting = _;
       body = p .body;
-      rebuilding = rebuilding p refl
-          (new-disjunction p _ (period-is (told k) (pre .rule) (pre .ready)) _ _ bounds (long k) (test .if1 .left)
-          (over .disjuncts-over .ensures _ _ (the-body p) bounds));
+      rebuilding = rebuilding p refl (new-planned p _ least _ _ bounds (long k) new (made .plan .given .1)
+          (plan-is plan (pre .rule) (pre .ready)));
     }
-
-same-length-4 : tie.Need-same-length-4
-same-length-4 c = search needs
 
 same-length-5 : tie.Need-same-length-5
 same-length-5 c = search needs
 
-returns-4 : tie.Need-returns-4
-returns-4 c = λ r ready.
+same-length-6 : tie.Need-same-length-6
+same-length-6 c = search needs
+
+returns-5 : tie.Need-returns-5
+returns-5 c = λ r ready.
     let done = c .before .before .before .before in
-    let test = done .before .before .before .before in
-    let over = test .before in
-    let k = collected over in
+    let made = done .before .before .before .before .before in
+    let plan = made .before .before in
+    let test = fitting (plan .before) in
+    let k = bounds-of plan in
     let p = place (located (call (told k))) r ready in
     let bounds = found k r ready in
     let least = period-is (told k) r ready in
     let new = new-disjunction p _ least _ _ bounds (long k) (test .if1 .left)
-    (over .disjuncts-over .ensures _ _ (the-body p) bounds) in
-    disjunction-stepped p _ least _ _ bounds (long k) _ _ new (done .rebuilt .ensures r _ _ _ (rebuilding p refl new))
+    (test .before .disjuncts-over .ensures _ _ (the-body p) bounds) in
+    let is = made .plan .given .1 in
+    let planned = plan-is plan r ready in
+    planned-stepped p _ least _ _ bounds (long k) new is planned _ _
+    (done .rebuilt .ensures r _ _ _ (rebuilding p refl (new-planned p _ least _ _ bounds (long k) new is planned)))
 
 pub disjunction-spec : {M : Type 1} → statement M
 disjunction-spec =
@@ -258,8 +361,25 @@ disjunction-spec =
     disjuncts-over-requires
     same-length-3
     returns-3
+    add-entry
+    mul-entry
+    sub-of-disjuncts
+    part-of-disjuncts-start
+    part-of-disjuncts-end
+    sub-of-disjuncts-2
+    part-of-disjuncts-start-2
+    part-of-disjuncts-end-2
+    add-of-disjuncts
+    add-of-disjuncts-2
+    slice-aggregate-of-disjuncts
+    of-disjuncts-requires
+    planned-requires
+    enum-known-plan
+    enum-told-3
+    same-length-4
+    returns-4
     slice-aggregate-rebuilt
     rebuilt-requires
-    same-length-4
     same-length-5
-    returns-4)
+    same-length-6
+    returns-5)

@@ -7,10 +7,11 @@ use Rattle.rules.specs.Result.{given}
 use Rattle.rules.specs.Eliminate.{step-table}
 use Rattle.rules.specs.Calls.{words}
 use Rattle.tables.specs.Checks.{Verdict}
-use Rattle.tables.proofs.Passed.{TableOf, passed}
+use Rattle.tables.proofs.Passed.{TableOf, passed, table-formed}
 use Rattle.finishing.proofs.CopyLaws.{same-words}
 use Rattle.elimination.specs.Stepping.{StepReady, Stepped}
-use Rattle.leaveoff.proofs.EliminateLaws.{check-refused, first-refused, first-made, first-ready, rounds-stepped}
+use Rattle.leaveoff.proofs.FirstLaws.{stepped-by, first-refused, first-made, first-ready, rounds-stepped}
+use Rattle.leaveoff.proofs.EliminatedLaws.{steps-are, steps-refused}
 use Rattle.leaveoff.proofs.eliminate.stepped.Statement.{statement}
 use Rattle.leaveoff.proofs.eliminate.stepped.Tie as tie
 
@@ -43,11 +44,11 @@ first-of c zero =
     let p = passing c in
     let s = start p in
     let (r, t) = table p in
-    let (f, e, at) = first-made t (s .args .room) _ _ (first-step c) zero in
+    let (f, e, at) = first-made (s .args .room) r _ _ (first-step c) zero in
     record {
       rule = f;
       is = e;
-      ready = first-ready t (s .args .room) e at (s .pre)
+      ready = first-ready (s .args .room) r (table-formed t) e at (s .pre)
           (same-words (c .first .last .1 .1 .0) (s .args .out .now) (c .first .kept .1 .1 .0))
           (same-words (c .first .last .1 .1 .1 .0) (s .args .work .now) (c .first .kept .1 .1 .1 .0));
     }
@@ -67,8 +68,8 @@ number-requires c κs = search needs
 returns : tie.Need-returns
 returns c =
     let refusing = c .before in
-    let checked = refusing .before .before .check in
-    check-refused _ _ _ _ (refusing .enum-told .given .1) (checked .ensures) (c .number .ensures)
+    let checked = refusing .before .before in
+    steps-refused _ _ _ _ (refusing .enum-told .given .1) (checked .check .ensures) (c .number .ensures)
 
 first-requires : tie.Need-first-requires
 first-requires c κs =
@@ -85,17 +86,11 @@ returns-2 : tie.Need-returns-2
 returns-2 c =
     let first = c .before .before .before .before .before in
     let (r, t) = table (passing first) in
-    first-refused t _ _ _ (first-step first) (c .if1 .taken)
+    stepped-by _ _ (steps-are _ t) (first-refused _ r _ _ (first-step first) (c .if1 .taken))
 
-quantifiers-requires : tie.Need-quantifiers-requires
-quantifiers-requires c κs =
-    let answered = c .before in
-    let f = first-of (answered .before .before .before .before .before) (answered .if1 .left) in
-    record { rule = _; has = f .ready .has }
-
-rounds-requires : tie.Need-rounds-requires
-rounds-requires c κs =
-    let answered = c .before .before .before .before in
+all-rounds-requires : tie.Need-all-rounds-requires
+all-rounds-requires c κs =
+    let answered = c .before .before in
     let f = first-of (answered .before .before .before .before .before) (answered .if1 .left) in
     record { rule = _; ready = f .ready }
 
@@ -108,13 +103,12 @@ same-length-4 c = search needs
 returns-3 : tie.Need-returns-3
 returns-3 c =
     let went-round = c .before .before .before .before in
-    let counted = went-round .before .before .before in
-    let answered = counted .before .before in
+    let answered = went-round .before .before .before in
     let first = answered .before .before .before .before .before in
     let (r, t) = table (passing first) in
     let f = first-of first (answered .if1 .left) in
-    rounds-stepped t _ _ _ (f .is) (counted .quantifiers .ensures (f .rule) (f .ready .has))
-    (went-round .rounds .ensures (f .rule) (f .ready))
+    stepped-by _ _ (steps-are _ t)
+    (rounds-stepped _ r _ _ (f .is) (went-round .all-rounds .ensures (f .rule) (f .ready)))
 
 pub stepped-spec : {M : Type 1} → statement M
 stepped-spec =
@@ -129,8 +123,7 @@ stepped-spec =
     same-length
     same-length-2
     returns-2
-    quantifiers-requires
-    rounds-requires
+    all-rounds-requires
     same-length-3
     same-length-4
     returns-3)

@@ -1,20 +1,46 @@
--- `matching::matches` meets its contract: the check's refusal, or what matching the table that passed it answers.
+-- `matching::matches` meets its contract: each answer says what matching gave.
 -- Assumes nothing.
-use Rattle.leaveoff.proofs.OutcomeLaws.{table-refused, says-whether, matched-again}
+use mathlib.Core.Path.{_≡_}
+use mathlib.Core.List.{[], _∷_}
+use Rattle.rules.specs.Answer.{Answer, match-answer}
+use Rattle.rules.specs.Calls.{matched}
+use Rattle.matcher.specs.Outcome.{result-of}
+use Rattle.matcher.specs.declared.outcome.Matched.{Matched}
 use Rattle.leaveoff.specs.Outcome.{SaysWhether}
-use Rattle.tables.specs.Checks.{Verdict}
-use mathlib.Core.Path.{sym, _∙_, subst}
+use Rattle.leaveoff.proofs.OutcomeLaws.{matched-answer}
 use borrow.Author.Needs.{needs}
 use Rattle.leaveoff.proofs.matching.matches.Statement.{statement}
 use Rattle.leaveoff.proofs.matching.matches.Tie as tie
 use Rattle.leaveoff.proofs.matching.matches.Reads as reads
 use Rattle.leaveoff.proofs.matching.matches.Lts as lts
+use Rattle.leaveoff.proofs.answer.matched.Reads as matched-reads
 use Rattle.leaveoff.proofs.answer.refused.Reads as refused-reads
-use Rattle.leaveoff.proofs.matching.match_rule.Reads as match-rule-reads
-use Rattle.tables.proofs.check.check.Reads as check-reads
+use Rattle.matcher.proofs.outcome.matches.Reads as matches-reads
 
-check-requires : tie.Need-check-requires
-check-requires c κs = search needs
+-- what the calls ask and learn
+abbrev calls : lts.Claims
+calls = (
+  matches-reads.Asked,
+  matches-reads.Learnt,
+  refused-reads.Asked,
+  refused-reads.Learnt,
+  matched-reads.Asked,
+  matched-reads.Learnt,
+)
+
+-- an answer a that says what matching gave
+answer : (c : lts.After-matches calls reads.Pre reads.Post) {a : Answer} {m : Matched} → c .matches .result ≡ m
+    → a ≡ match-answer (result-of m)
+    → (let start = c .before .before .args in
+    (a ≡ matched (start .t .now) (start .s1) (start .s2) (start .s3) (start .s4) (start .s5) (start .s6))
+    × SaysWhether (start .t .now)
+    (start .s1 ∷ start .s2 ∷ start .s3 ∷ start .s4 ∷ start .s5 ∷ start .s6 ∷ []) a)
+answer c is e =
+    let f = c .before .before .fits in
+    matched-answer _ (f .s1) (f .s2) (f .s3) (f .s4) (f .s5) (f .s6) is e (c .matches .ensures)
+
+matches-requires : tie.Need-matches-requires
+matches-requires c κs = search needs
 
 enum-known-k : tie.Need-enum-known-k
 enum-known-k c = search needs
@@ -22,36 +48,50 @@ enum-known-k c = search needs
 refused-requires : tie.Need-refused-requires
 refused-requires c κs = search needs
 
-enum-known-n : tie.Need-enum-known-n
-enum-known-n c = search needs
+enum-told : tie.Need-enum-told
+enum-told c = search needs
 
-match-rule-requires : tie.Need-match-rule-requires
-match-rule-requires c κs = subst (Verdict _) (c .before .n .given .1) (c .before .before .before .check .ensures)
+matched-requires : tie.Need-matched-requires
+matched-requires c κs = search needs
+
+enum-told-2 : tie.Need-enum-told-2
+enum-told-2 c = search needs
+
+matched-requires-2 : tie.Need-matched-requires-2
+matched-requires-2 c κs = search needs
 
 returns : tie.Need-returns
+unfolding match-answer
 returns c =
-    let refusing = c .before .before in
-    let checked = refusing .before .before .check in
-    let outcome =
-    c .refused .ensures ∙ sym (table-refused _ _ _ _ _ _ _ _ (refusing .k .given .1) (checked .ensures)) in
-    (outcome, subst (SaysWhether _ _) (sym outcome) (says-whether _ _ _ _ _ _ _))
+    let told = c .before .before in
+    let gave = told .before .before in
+    answer gave (told .k .given .1) (c .refused .ensures)
 
 returns-2 : tie.Need-returns-2
+unfolding match-answer
 returns-2 c =
-    let start = c .before .before .before .before .before .before in
-    let f = start .fits in
-    let outcome =
-    matched-again (start .args .t .now) (f .s1) (f .s2) (f .s3) (f .s4) (f .s5) (f .s6) (c .match-rule .ensures) in
-    (outcome, subst (SaysWhether _ _) (sym outcome) (says-whether _ _ _ _ _ _ _))
+    let told = c .before in
+    let gave = told .before .before in
+    answer gave (told .enum-told .given .1) (c .matched .ensures)
+
+returns-3 : tie.Need-returns-3
+unfolding match-answer
+returns-3 c =
+    let told = c .before in
+    let gave = told .before .before in
+    answer gave (told .enum-told2 .given .1) (c .matched2 .ensures)
 
 pub matches-spec : {M : Type 1} → statement M
 matches-spec =
     tie.close
     (tie.spec
-    check-requires
+    matches-requires
     enum-known-k
     refused-requires
-    enum-known-n
-    match-rule-requires
+    enum-told
+    matched-requires
+    enum-told-2
+    matched-requires-2
     returns
-    returns-2)
+    returns-2
+    returns-3)

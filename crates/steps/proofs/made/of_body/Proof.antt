@@ -2,6 +2,7 @@
 -- Assumes nothing.
 use borrow.Author.Needs.{needs}
 use Rattle.steps.proofs.MakingLaws.{some-known, known-gives, factor-fair, some-disjoining, disjunction-gives}
+use Rattle.steps.proofs.MakingLaws.{truth-gives}
 use Rattle.steps.proofs.made.of_body.Statement.{statement}
 use Rattle.steps.proofs.made.of_body.Tie as tie
 
@@ -41,6 +42,9 @@ disjunction-requires c κs =
     let told = c .before .before in
     some-disjoining _ _ _ (told .step2 .given .1) (told .before .before .before .before .before .before .pre .0)
 
+enum-known-step-3 : tie.Need-enum-known-step-3
+enum-known-step-3 c = search needs
+
 same-length : tie.Need-same-length
 same-length c = search needs
 
@@ -77,6 +81,11 @@ returns-4 c =
     let is = put .before .before .before .step2 .given .1 in
     λ a ds m. known-gives _ _ is m _ _ (λ k. disjunction-gives k _ _ (put .disjunction .ensures a ds))
 
+returns-5 : tie.Need-returns-5
+returns-5 c =
+    let is = c .before .step3 .given .1 in
+    λ a ds m. known-gives _ _ is m _ _ (truth-gives _)
+
 pub of-body-spec : {M : Type 1} → statement M
 of-body-spec =
     tie.close
@@ -89,6 +98,7 @@ of-body-spec =
     scaled-requires
     enum-known-step-2
     disjunction-requires
+    enum-known-step-3
     same-length
     returns
     same-length-2
@@ -96,4 +106,5 @@ of-body-spec =
     same-length-3
     returns-3
     same-length-4
-    returns-4)
+    returns-4
+    returns-5)

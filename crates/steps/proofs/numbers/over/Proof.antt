@@ -9,12 +9,12 @@ use Rattle.rules.specs.Calls.{words}
 use Rattle.bodies.specs.Cursor.{SomeLiteral}
 use Rattle.bodies.proofs.ScanLaws.{Scanned, scan-start, scan-here, scan-step, scan-ended, scan-over}
 use Rattle.steps.proofs.NumberLaws.{literal-part, part-inside, part-fits, part-literal}
-use Rattle.steps.proofs.NumberLaws.{Over, none-yet, none-here, one-here, over-body}
+use Rattle.steps.proofs.NumberLaws.{Found, over-changed, none-yet, none-here, one-here, over-body}
 use Rattle.steps.proofs.numbers.over.Statement.{statement}
 use Rattle.steps.proofs.numbers.over.Tie as tie
 
 abbrev Inv-loop : tie.InvT-loop
-Inv-loop bodies end change u place₀ place = Scanned (words bodies) place end (Over change u false)
+Inv-loop bodies end change u place₀ place = Scanned (words bodies) place end (Found (over-changed change u) false)
 
 abbrev μ-loop : tie.MeasureT-loop
 μ-loop bodies end change u place₀ place = end - place
@@ -29,7 +29,7 @@ first-requires : tie.Need-first-requires Inv-loop μ-loop
 first-requires c κs = c .before .pre .0
 
 loop-holds : tie.Need-loop-holds Inv-loop μ-loop
-loop-holds c = scan-start _ (none-yet _ _) (c .first .ensures)
+loop-holds c = scan-start _ (none-yet _) (c .first .ensures)
 
 mul-over : tie.Need-mul-over Inv-loop μ-loop
 mul-over c = omega (arith, part-fits _ _ (here c))
@@ -52,9 +52,9 @@ returns c =
     let test = c .before .before .before in
     λ n a b.
     over-body _ _ a
-    (scan-ended (test .before .loop .inv) (test .loop-test .taken) (Over _ _ true)
+    (scan-ended (test .before .loop .inv) (test .loop-test .taken) (Found _ true)
     (λ t s ls ks l q.
-    one-here _ _ t s ls ks q (sym (c .before .over .ensures _ t s (literal-part _ _ l)) ∙ c .if1 .taken))
+    one-here _ t s ls ks q (sym (c .before .over .ensures _ t s (literal-part _ _ l)) ∙ c .if1 .taken))
     n a b)
 
 following-requires : tie.Need-following-requires Inv-loop μ-loop
@@ -67,9 +67,9 @@ loop-again : tie.Need-loop-again Inv-loop μ-loop
 loop-again c =
     let found = c .before in
     let test = found .before .before .before in
-    scan-step (test .before .loop .inv) (test .loop-test .taken) (Over _ _ false) (c .following .ensures .1)
+    scan-step (test .before .loop .inv) (test .loop-test .taken) (Found _ false) (c .following .ensures .1)
     (λ t s ls ks l q.
-    none-here _ _ t s ks q (sym (found .before .over .ensures _ t s (literal-part _ _ l)) ∙ found .if1 .left))
+    none-here _ t s ks q (sym (found .before .over .ensures _ t s (literal-part _ _ l)) ∙ found .if1 .left))
 
 returns-2 : tie.Need-returns-2 Inv-loop μ-loop
 returns-2 c =
