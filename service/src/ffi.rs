@@ -25,6 +25,16 @@ unsafe extern "C" {
         work: *mut u8,
         work_length: usize,
     ) -> u64;
+
+    fn leaveoff_test(
+        table: *const u8,
+        length: usize,
+        setting: i32,
+        out: *mut u8,
+        out_length: usize,
+        work: *mut u8,
+        work_length: usize,
+    ) -> u64;
 }
 
 /// Matching, its answer packed.
@@ -44,6 +54,22 @@ pub fn eliminate(table: &[u8], out: &mut [u8], work: &mut [u8]) -> u64 {
         leaveoff_eliminate(
             table.as_ptr(),
             table.len(),
+            out.as_mut_ptr(),
+            out.len(),
+            work.as_mut_ptr(),
+            work.len(),
+        )
+    }
+}
+
+/// The leave-off test, its answer packed.
+pub fn leave_off(table: &[u8], setting: i32, out: &mut [u8], work: &mut [u8]) -> u64 {
+    // SAFETY: as in `eliminate`; the contract asks nothing of the setting either.
+    unsafe {
+        leaveoff_test(
+            table.as_ptr(),
+            table.len(),
+            setting,
             out.as_mut_ptr(),
             out.len(),
             work.as_mut_ptr(),

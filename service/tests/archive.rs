@@ -18,7 +18,7 @@ struct Symbol {
 fn the_archive_asks_for_nothing_but_moving_bytes() {
     let archive = fs::read(ARCHIVE).expect("the archive that was linked");
     let symbols: Vec<Symbol> = objects(&archive).into_iter().flat_map(symbols).collect();
-    for call in ["leaveoff_match", "leaveoff_eliminate"] {
+    for call in ["leaveoff_match", "leaveoff_eliminate", "leaveoff_test"] {
         let is_call = |symbol: &Symbol| symbol.defined && symbol.name == call;
         assert!(symbols.iter().any(is_call), "there is no {call}");
     }

@@ -2,6 +2,8 @@
 
 #![allow(dead_code)] // no test makes every call
 
+use service::{Line, Refusal, Verdict};
+
 /// An answer: its number, the verdict, the words of the result and the set of settings.
 #[derive(Clone, Copy, Debug, PartialEq, Eq)]
 pub struct Numbers {
@@ -12,21 +14,55 @@ pub struct Numbers {
 }
 
 impl Numbers {
-    fn of(answer: service::Answer) -> Numbers {
-        assert_eq!(answer.place, 0, "no call gives a place");
+    /// An answer without words and settings.
+    fn bare(number: u8, verdict: u8) -> Numbers {
         Numbers {
-            number: answer.number,
-            verdict: answer.verdict,
-            words: answer.words,
-            settings: answer.settings,
+            number,
+            verdict,
+            words: 0,
+            settings: 0,
         }
+    }
+
+    /// "A refusal has zeros in all three."
+    fn refused(refusal: Refusal) -> Numbers {
+        Numbers::bare(refusal.number(), 0)
     }
 }
 
 pub fn matches(table: &[u8], values: [i32; 6]) -> Numbers {
-    Numbers::of(service::matches(table, values))
+    match service::matches(table, values) {
+        Ok(true) => Numbers::bare(0, 1),
+        Ok(false) => Numbers::bare(0, 2),
+        Err(refusal) => Numbers::refused(refusal),
+    }
 }
 
 pub fn eliminate(table: &[u8], out: &mut [u8], work: &mut [u8]) -> Numbers {
-    Numbers::of(service::eliminate(table, out, work))
+    match service::eliminate(table, out, work) {
+        Ok(answer) => Numbers {
+            number: 0,
+            verdict: match answer.verdict {
+                Verdict::True => 1,
+                Verdict::False => 2,
+                Verdict::Open => 3,
+            },
+            words: answer.words as u32,
+            settings: answer.settings.bits(),
+        },
+        Err(refusal) => Numbers::refused(refusal),
+    }
+}
+
+pub fn leave_off(table: &[u8], setting: i32, out: &mut [u8], work: &mut [u8]) -> Numbers {
+    // A line of this type was answered in three words, without a setting.
+    let answered = |verdict| Numbers {
+        words: 3,
+        ..Numbers::bare(0, verdict)
+    };
+    match service::leave_off(table, setting, out, work) {
+        Ok(Line::Matters) => answered(1),
+        Ok(Line::MayBeLeftOff) => answered(2),
+        Err(refusal) => Numbers::refused(refusal),
+    }
 }
