@@ -1,13 +1,13 @@
-//! The deepest tables, on the stack that Rust gives a thread by default, and many threads at once.
+//! The deepest tables, on the stack that the service asks for, and many threads at once.
 
 mod independent;
 mod numbers;
 mod tables;
 
 use numbers::{Numbers, eliminate, matches};
+use service::STACK_BYTES;
 use std::thread::{Builder, scope};
 
-const STACK: usize = 2 << 20;
 const LITERAL: [i32; 8] = [5, 0, 1, 0, 0, 0, 0, 0];
 
 struct Case {
@@ -25,7 +25,7 @@ fn case(
     words: usize,
     (number, verdict): (u8, u8),
 ) -> Case {
-    let table = tables::bytes(&tables::words(bodies));
+    let table = tables::of(bodies);
     assert_eq!(table.len(), 4 * words, "{name}");
     Case {
         name,
@@ -162,11 +162,11 @@ fn check(cases: &[Case], matches: fn(&[u8], [i32; 6]) -> Numbers) {
 }
 
 #[test]
-fn the_deepest_tables_need_no_more_than_two_mebibytes() {
+fn the_deepest_tables_need_no_more_stack_than_is_said() {
     let cases = cases();
     scope(|s| {
         Builder::new()
-            .stack_size(STACK)
+            .stack_size(STACK_BYTES)
             .spawn_scoped(s, || check(&cases, matches))
             .unwrap();
     });
@@ -179,23 +179,10 @@ fn eight_threads_at_once_are_answered_alike() {
         for _ in 0..8 {
             let many = || (0..20).for_each(|_| check(&cases, matches));
             Builder::new()
-                .stack_size(STACK)
+                .stack_size(STACK_BYTES)
                 .spawn_scoped(s, many)
                 .unwrap();
         }
-    });
-}
-
-#[test]
-fn the_independent_implementation_agrees() {
-    let cases = cases();
-    scope(|s| {
-        // It walks trees without a thought for the stack.
-        let check = || check(&cases, independent::matches);
-        Builder::new()
-            .stack_size(256 << 20)
-            .spawn_scoped(s, check)
-            .unwrap();
     });
 }
 
@@ -241,23 +228,32 @@ fn eliminations() -> Vec<Elimination> {
     ]
 }
 
+fn check_eliminations(eliminate: fn(&[u8], &mut [u8], &mut [u8]) -> Numbers) {
+    for Elimination(name, bodies, words, verdict, words_left) in eliminations() {
+        let table = tables::of(&bodies);
+        assert_eq!(table.len(), 4 * words, "{name}");
+        let (mut out, mut work) = (vec![0xaa; 65_536], vec![0xaa; 65_536]);
+        let answer = eliminate(&table, &mut out, &mut work);
+        let left = (answer.number, answer.verdict, answer.words);
+        assert_eq!(left, (0, verdict, words_left), "{name}");
+        assert!(work.iter().all(|&byte| byte == 0), "{name}");
+    }
+}
+
 #[test]
-fn elimination_of_the_deepest_tables_needs_no_more_than_two_mebibytes() {
-    let run = || {
-        for Elimination(name, bodies, words, verdict, words_left) in eliminations() {
-            let table = tables::bytes(&tables::words(&bodies));
-            assert_eq!(table.len(), 4 * words, "{name}");
-            let (mut out, mut work) = (vec![0xaa; 65_536], vec![0xaa; 65_536]);
-            let answer = eliminate(&table, &mut out, &mut work);
-            let left = (answer.number, answer.verdict, answer.words);
-            assert_eq!(left, (0, verdict, words_left), "{name}");
-            assert!(work.iter().all(|&byte| byte == 0), "{name}");
-        }
-    };
+fn elimination_of_the_deepest_tables_needs_no_more_stack_than_is_said() {
     Builder::new()
-        .stack_size(STACK)
-        .spawn(run)
+        .stack_size(STACK_BYTES)
+        .spawn(|| check_eliminations(eliminate))
         .unwrap()
         .join()
         .unwrap();
+}
+
+#[test]
+fn the_independent_implementation_agrees() {
+    independent::on_a_large_stack(|| {
+        check(&cases(), independent::matches);
+        check_eliminations(independent::eliminate);
+    });
 }

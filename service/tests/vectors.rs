@@ -7,44 +7,69 @@ mod numbers;
 use lines::{Buffer, Call, Line, line, lines};
 use numbers::Numbers;
 
-const MATCH: &str = include_str!("vectors/match.txt");
+const MATCHING: &str = include_str!("vectors/match.txt");
 const ELIMINATION: &str = include_str!("vectors/elim.txt");
+const LEAVE_OFF: &str = include_str!("vectors/leave.txt");
 
-/// Runs every line; both calls take the table and the values.
-fn run(matches: fn(&[u8], [i32; 6]) -> Numbers) {
-    let lines = lines(MATCH);
+/// Answers the lines of matching, which lend no buffers.
+fn answer_matching(matches: fn(&[u8], [i32; 6]) -> Numbers) {
+    let lines = lines(MATCHING);
     assert_eq!(lines.len(), 58);
     for (at, line) in lines {
         let Call::Match(values) = line.call else {
-            panic!("line {at}: the library has no such call yet");
+            panic!("line {at}: another call");
         };
         assert_eq!((line.out_length, line.work_length), (0, 0), "line {at}");
         assert_eq!(matches(&line.table, values), line.answer, "line {at}");
     }
 }
 
-#[test]
-fn the_library_answers_every_line() {
-    run(numbers::matches);
-}
-
-#[test]
-fn elimination_leaves_every_byte_of_every_line() {
+/// Answers the lines of elimination, by every byte of both buffers.
+fn answer_elimination(eliminate: fn(&[u8], &mut [u8], &mut [u8]) -> Numbers) {
     let lines = lines(ELIMINATION);
     assert_eq!(lines.len(), 106);
     for (at, line) in lines {
         assert_eq!(line.call, Call::Eliminate, "line {at}");
-        let (mut out, mut work) = (vec![0xaa; line.out_length], vec![0xaa; line.work_length]);
-        let answer = numbers::eliminate(&line.table, &mut out, &mut work);
-        assert_eq!(answer, line.answer, "line {at}");
-        assert!(line.out.holds(&out), "line {at}: the output");
-        assert!(line.work.holds(&work), "line {at}: the work buffer");
+        leave(at, &line, |out, work| eliminate(&line.table, out, work));
     }
+}
+
+/// Answers the lines of the leave-off test, by every byte of both buffers.
+fn answer_leave_off(leave_off: fn(&[u8], i32, &mut [u8], &mut [u8]) -> Numbers) {
+    let lines = lines(LEAVE_OFF);
+    assert_eq!(lines.len(), 66);
+    for (at, line) in lines {
+        let Call::Test(setting) = line.call else {
+            panic!("line {at}: another call");
+        };
+        leave(at, &line, |out, work| {
+            leave_off(&line.table, setting, out, work)
+        });
+    }
+}
+
+fn leave(at: usize, line: &Line, call: impl FnOnce(&mut [u8], &mut [u8]) -> Numbers) {
+    let (mut out, mut work) = (vec![0xaa; line.out_length], vec![0xaa; line.work_length]);
+    assert_eq!(call(&mut out, &mut work), line.answer, "line {at}");
+    assert!(line.out.holds(&out), "line {at}: the output");
+    assert!(line.work.holds(&work), "line {at}: the work buffer");
+}
+
+#[test]
+fn the_library_answers_every_line() {
+    answer_matching(numbers::matches);
+    answer_elimination(numbers::eliminate);
+    answer_leave_off(numbers::leave_off);
 }
 
 #[test]
 fn the_independent_implementation_answers_every_line() {
-    run(independent::matches);
+    let answer = || {
+        answer_matching(independent::matches);
+        answer_elimination(independent::eliminate);
+        answer_leave_off(independent::leave_off);
+    };
+    independent::on_a_large_stack(answer);
 }
 
 #[test]
