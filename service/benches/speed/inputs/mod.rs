@@ -1,0 +1,5 @@
+//! What is measured.
+
+pub mod elimination;
+pub mod matching;
+mod rules;
