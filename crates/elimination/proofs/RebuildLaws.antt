@@ -10,10 +10,10 @@ use lib.IntN.{ℤ, pos}
 use lib.ListN.{length, getD, drop}
 use lib.Seq.{drop-drop}
 use Rattle.rules.specs.Sum.{Sum, number, all-within}
-use Rattle.rules.specs.Rule.{Quantifier, Rule, Not}
+use Rattle.rules.specs.Rule.{Quantifier, Rule}
 use Rattle.rules.specs.Result.{given, _>>=_, require}
 use Rattle.rules.specs.Table.{Node, most-words, count, nodes, encode, size}
-use Rattle.rules.specs.Fold.{fold-not, fold}
+use Rattle.rules.specs.Fold.{fold}
 use Rattle.rules.specs.Chosen.{replace}
 use Rattle.rules.specs.Literals.{some-literal}
 use Rattle.rules.specs.Eliminate.{over-limit, step-table}
@@ -21,12 +21,11 @@ use Rattle.rules.specs.Laws.{InTable, WellFormed}
 use Rattle.rules.specs.Calls.{signed, words}
 use Rattle.rules.proofs.Refusals.{passed, then}
 use Rattle.rules.proofs.Sizes.{weight, total, weight-is}
-use Rattle.rules.proofs.Folding.{keep-fold, folded-fold, fold-folded}
-use Rattle.rules.proofs.Weights.{join-lighter, fold-lighter}
-use Rattle.rules.proofs.Choosing.{Put, here, in-left, in-right, in-not, in-bind, put}
+use Rattle.rules.proofs.Folding.{keep-fold}
+use Rattle.rules.proofs.Weights.{fold-lighter}
+use Rattle.rules.proofs.Choosing.{put}
 use Rattle.rules.proofs.Shapes.{each-by-parts}
 use Rattle.rules.proofs.StepShapes.{within-table, replaced-formed}
-use Rattle.rules.proofs.Disjuncts.{same-body}
 use Rattle.tables.specs.Standing.{TableAt}
 use Rattle.tables.proofs.WordLaws.{words-from}
 use Rattle.tables.proofs.WalkLaws.{part}
@@ -42,6 +41,8 @@ use Rattle.bodies.specs.Body.{chosen-place}
 use Rattle.literals.specs.Changes.{becomes, Usable, Fair}
 use Rattle.walks.specs.Walk.{changed, Ready}
 use Rattle.steps.specs.Making.{new-of, Makeable, Around}
+use Rattle.steps.proofs.AroundLaws.{unchanged}
+use Rattle.steps.proofs.ReplaceLaws.{put-lighter}
 use Rattle.elimination.specs.Stepping.{HasTable, InPlace, none-built, Folding, Closing, sized, Stepped}
 use Rattle.elimination.specs.Stepping.{Rebuilding, FirstReady}
 use Rattle.literals.specs.declared.change.Change.the-variants.{Same}
@@ -103,21 +104,6 @@ module _ (room : ℕ) (f : Rule) (ts : List ℤ) where
 
 -- ---- with a new rule for the chosen quantifier
 
--- the rest gets no heavier
-put-lighter : {q : Quantifier} {x : ℕ} {a new r s : Rule} → Put q x a new r s
-    → weight (fold s) ≤ weight r + weight (fold new)
-unfolding fold weight
-put-lighter (here e) = omega arith
-put-lighter (in-left {j = j} {s = s} {b = b} p e) =
-    omega (arith, join-lighter j (fold s) (fold b), put-lighter p, fold-lighter b)
-put-lighter (in-right {j = j} {b = b} {s = s} p) =
-    omega (arith, join-lighter j (fold b) (fold s), put-lighter p, fold-lighter b)
-put-lighter (in-not {s = s} p) =
-    let under : weight (fold (Not (fold s))) ≤ 1 + weight (fold s) = fold-lighter (Not (fold s)) in
-    let again : fold (Not (fold s)) ≡ fold (Not s) = ap fold-not (fold-folded (fold s) (folded-fold s)) in
-    omega (arith, ap weight again, under, put-lighter p)
-put-lighter (in-bind p) = omega (arith, put-lighter p)
-
 module _ {ts ws : List ℤ} {room c : ℕ} {step : Step} {places : List ℕ} {r : Rule} {q : Quantifier} {x : ℕ} {a : Rule}
     (k : Rebuilding ts ws room c step places r q x a) where
   few-words : weight r + 1 ≤ most-words
@@ -162,10 +148,6 @@ around-asks {l} {n} {step = step} {places = places} {r = r} {x = x} {a = a} t k 
         ∙ ap (drop (chosen-place r + 2)) (sym (words-from l (n + 1)))
 
 -- ---- the first one: a rule folded, with nothing changed
-
-unchanged : (u : Sum) (r : Rule) → changed Same u r ≡ r
-unfolding changed becomes
-unchanged u r = same-body r
 
 pub folding-table : {l : List ℕ} {n : ℕ} {ws : List ℤ} {r : Rule} → Folding (words l) n ws r → ReadTable l n r
 folding-table k = record { has = k .has; counted = k .counted }

@@ -18,7 +18,8 @@ use Rattle.whole.specs.Divides.{Divides, divides}
 use Rattle.whole.proofs.Linear.{zarith, sum, dif, neg}
 use Rattle.whole.proofs.Divisibility.{divides-self, divides-add, divides-neg, divides-shift, divides-test}
 use Rattle.rules.specs.Sum.{limit}
-use Rattle.literals.proofs.Sizes.{read, size-neg, fits-size}
+use Rattle.whole.proofs.Divisibility.{size-neg}
+use Rattle.literals.proofs.Sizes.{read, fits-size}
 use Rattle.judging.specs.Judging.{bit}
 use Rattle.judging.specs.Masks.{flag, Mask, Placed}
 use Rattle.judging.specs.Shifts.{most-moved}

@@ -20,20 +20,13 @@ use Rattle.rules.specs.Calls.{signed}
 use Rattle.rules.proofs.Sizes.{weight, weight-pos}
 use Rattle.tables.specs.Standing.{Stands}
 use Rattle.tables.proofs.Standings.{under-not, inside-entries, inside-bodies}
+use Rattle.tables.proofs.Parts.{moved}
 use Rattle.tables.proofs.Inversion.{Shape, shape, constant, join, negation, literal, bind}
 use Rattle.judging.specs.Judging.{Says}
 use Rattle.judging.specs.Walks.{nots, bare}
 use Rattle.judging.proofs.SaidLaws.{says-not}
 
 -- ---- where it stands
-
--- the same lists and numbers, counted otherwise
-same : {es fs bs cs : List ℤ} {n m p q : ℕ} (r : Rule) → es ≡ fs → bs ≡ cs → n ≡ m → p ≡ q → Stands es bs n p r
-    → Stands fs cs m q r
-same {es} {fs} {bs} {cs} {n} {m} {p} {q} r e f g h s =
-    subst (λ (x : List ℤ). Stands x cs m q r) e
-    (subst (λ (x : List ℤ). Stands es x m q r) f
-    (subst (λ (x : ℕ). Stands es bs x q r) g (subst (λ (x : ℕ). Stands es bs n x r) h s)))
 
 at-drop : (l : List ℤ) (i : ℕ) → getD (drop 1 l) i (pos 0) ≡ getD l (suc i) (pos 0)
 at-drop l i = getD-drop 1 l i (pos 0) ∙ ap (λ (m : ℕ). getD l m (pos 0)) (let e : 1 + i ≡ suc i = omega arith in e)
@@ -104,17 +97,17 @@ nots-inside a s =
 pub bare-stands : {es bs : List ℤ} {n p : ℕ} (a : Rule) → Stands es bs n p a
     → Stands (drop (nots a) es) (drop (nots a) bs) (n + nots a) (p + nots a) (bare a)
 unfolding nots bare
-bare-stands (Constant b) s = same (Constant b) refl refl (omega arith) (omega arith) s
-bare-stands (Join j x y) s = same (Join j x y) refl refl (omega arith) (omega arith) s
+bare-stands (Constant b) s = moved (Constant b) refl refl (omega arith) (omega arith) s
+bare-stands (Join j x y) s = moved (Join j x y) refl refl (omega arith) (omega arith) s
 bare-stands {es} {bs} {n} {p} (Not x) s =
-    same (bare x) (drop-drop (nots x) 1 es ∙ ap (λ (m : ℕ). drop m es) (one-more (nots x)))
+    moved (bare x) (drop-drop (nots x) 1 es ∙ ap (λ (m : ℕ). drop m es) (one-more (nots x)))
     (drop-drop (nots x) 1 bs ∙ ap (λ (m : ℕ). drop m bs) (one-more (nots x))) (omega arith) (omega arith)
     (bare-stands x (under-not x s))
   where
     one-more : (m : ℕ) → 1 + m ≡ suc m
     one-more m = omega arith
-bare-stands (Literal t z) s = same (Literal t z) refl refl (omega arith) (omega arith) s
-bare-stands (Bind q v x) s = same (Bind q v x) refl refl (omega arith) (omega arith) s
+bare-stands (Literal t z) s = moved (Literal t z) refl refl (omega arith) (omega arith) s
+bare-stands (Bind q v x) s = moved (Bind q v x) refl refl (omega arith) (omega arith) s
 
 pub bare-formed : (a : Rule) → WellFormed a → WellFormed (bare a)
 unfolding bare Each

@@ -8,7 +8,8 @@ use lib.IntN.{ℤ, negℤ, natAbs, _+ℤ_, _-ℤ_, _*ℤ_}
 use mir.Syntax.{w64}
 use mir.Val.{SFits}
 use mir.Facts.{toZ-ofZ}
-use Rattle.literals.proofs.Sizes.{read, size-neg, size-add, size-mul, fits-size}
+use Rattle.whole.proofs.Divisibility.{size-neg}
+use Rattle.literals.proofs.Sizes.{read, size-add, size-mul, fits-size}
 
 pub size-less : (a b : ℤ) → natAbs (a -ℤ b) ≤ natAbs a + natAbs b
 size-less a b = rw (← (size-neg b)) (size-add a (negℤ b))

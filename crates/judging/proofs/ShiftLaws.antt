@@ -19,8 +19,9 @@ use Rattle.whole.proofs.Ring.{rr, r2, r4, ring}
 use Rattle.rules.specs.Sum.{Sum, factor, add, scale, negate, put, number, setting, limit, all-within}
 use Rattle.rules.specs.Steps.{sum-at}
 use Rattle.rules.specs.Eliminate.{most-period}
-use Rattle.rules.proofs.Sums.{factor-put, factor-put-other, factor-scale, factor-add, number-factor}
+use Rattle.rules.proofs.Sums.{factor-scale, factor-add, number-factor}
 use Rattle.rules.proofs.Sums.{length-scale, length-add, length-put}
+use Rattle.literals.proofs.ChangeLaws.{put-word}
 use Rattle.literals.proofs.Sizes.{read, again, size-add, fits-size}
 use Rattle.literals.proofs.Terms.{within-at, listed}
 use Rattle.judging.specs.Shifts.{less, most-shift}
@@ -28,18 +29,11 @@ use Rattle.judging.proofs.ProductLaws.{size-less}
 
 -- ---- the words of w − x
 
-put-at : (i x : ℕ) (a : ℤ) (s : Sum) → factor i (put x a s) ≡ cond (eqb i x) a (factor i s)
-put-at i x a s = by (eqb i x) refl
-  where
-    by : (b : Bool) → eqb i x ≡ b → factor i (put x a s) ≡ cond b a (factor i s)
-    by true e = ap (λ (v : ℕ). factor i (put v a s)) (sym (eqb→eq i x (subst T (sym e) tt))) ∙ factor-put i a s
-    by false e = factor-put-other i x a s (λ p. absurd (subst T (sym (eq-eqb i x p) ∙ e) tt))
-
 -- what is taken away at word i
 abbrev one-at : ℕ → ℕ → ℤ
 one-at x i = cond (eqb i x) (negsuc 0) (pos 0)
 
-zero-number : (i : ℕ) → factor i (number (pos 0)) ≡ pos 0
+pub zero-number : (i : ℕ) → factor i (number (pos 0)) ≡ pos 0
 zero-number zero = refl
 zero-number (suc i) = number-factor (suc i) (pos 0) (omega arith)
 
@@ -49,7 +43,7 @@ less-word x i w =
     factor-add i w (scale (negsuc 0) (put x (pos 1) (number (pos 0))))
     ∙ ap (λ (z : ℤ). factor i w +ℤ z)
     (factor-scale i (negsuc 0) (put x (pos 1) (number (pos 0)))
-    ∙ ap (λ (z : ℤ). negsuc 0 *ℤ z) (put-at i x (pos 1) (number (pos 0)) ∙ ap (cond (eqb i x) (pos 1)) (zero-number i))
+    ∙ ap (λ (z : ℤ). negsuc 0 *ℤ z) (put-word i x (pos 1) (number (pos 0)) ∙ ap (cond (eqb i x) (pos 1)) (zero-number i))
     ∙ by (eqb i x))
   where
     by : (b : Bool) → negsuc 0 *ℤ cond b (pos 1) (pos 0) ≡ cond b (negsuc 0) (pos 0)
@@ -81,7 +75,7 @@ module _ (x k : ℕ) (w s : Sum) where
   unfolding sum-at
   at-word i =
       factor-add i (put x (pos 0) s) (scale (factor x s) (add w (number (pos k))))
-      ∙ ap₂ _+ℤ_ (put-at i x (pos 0) s) (factor-scale i (factor x s) (add w (number (pos k))))
+      ∙ ap₂ _+ℤ_ (put-word i x (pos 0) s) (factor-scale i (factor x s) (add w (number (pos k))))
 
   pub factor-moved : (i : ℕ) → 1 ≤ i → factor i (sum-at x (add w (number (pos k))) s)
       ≡ factor i s +ℤ factor x s *ℤ factor i (less x w)

@@ -10,7 +10,7 @@ use borrow.Author.Tests.{eqb-true, eqb-false}
 use borrow.Rule.Slice.PartAt.{part-to-end}
 use lib.Dec.{eqb}
 use lib.IntN.{pos}
-use lib.ListN.{length, getD, drop, length-drop}
+use lib.ListN.{length, getD, drop}
 use lib.Seq.{drop-drop}
 use Rattle.rules.specs.Sum.{Sum}
 use Rattle.rules.specs.Rule.{Rule, Constant, Join}
@@ -18,13 +18,14 @@ use Rattle.rules.specs.Fold.{fold}
 use Rattle.rules.specs.Calls.{signed, words}
 use Rattle.tables.specs.declared.sides.Side.{Side}
 use Rattle.tables.proofs.WordLaws.{number-of, words-length}
+use Rattle.tables.proofs.Parts.{bytes-from, bytes-length}
 use Rattle.judging.specs.Judging.{Says, at-sum}
 use Rattle.judging.specs.Masks.{Known, joint}
 use Rattle.judging.specs.Shifts.{Shifted}
 use Rattle.judging.specs.Walks.{SomeSpine}
 use Rattle.judging.specs.declared.judge.Judged.{Judged}
 use Rattle.judging.proofs.SaidLaws.{says-throughout, drops-out, regroup}
-use Rattle.judging.proofs.WalkLaws.{Call, WalkingFor, SomeFor, Judges, bytes-from, further, Kinded, JoinKind, RightFound, sides-of, join-sum, left-walking, left-asks, entry-there, body-there, right-walking, right-side-asks, right-entries-there, right-bodies-there, right-entries-some}
+use Rattle.judging.proofs.WalkLaws.{Call, WalkingFor, SomeFor, Judges, further, Kinded, JoinKind, RightFound, sides-of, join-sum, left-walking, left-asks, entry-there, body-there, right-walking, right-side-asks, right-entries-there, right-bodies-there, right-entries-some}
 
 -- ---- further, and further again
 
@@ -34,9 +35,6 @@ bytes-none l = sym (part-to-end l 0)
 bytes-twice : (l : List ℕ) (a b : ℕ) → bytes-from (bytes-from l a) b ≡ bytes-from l (a + b)
 bytes-twice l a b =
     part-to-end (bytes-from l a) b ∙ ap (drop b) (part-to-end l a) ∙ drop-drop b a l ∙ sym (part-to-end l (a + b))
-
-pub bytes-length : (l : List ℕ) (e : ℕ) → length (bytes-from l e) ≡ length l - e
-bytes-length l e = ap length (part-to-end l e) ∙ length-drop e l
 
 further-none : (q : Call) → q ≡ further q 0 0 (q .node) (q .place)
 further-none q =

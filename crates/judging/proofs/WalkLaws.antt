@@ -7,7 +7,7 @@ use Prim.Native.Nat.{ℕ, _+_, _-_, _*_, _%_, _<_, _≤_}
 use native.Mathlib.Omega.{arith}
 use lib.Dec.{T, eqb}
 use lib.IntN.{ℤ, pos}
-use lib.ListN.{length, getD, take, drop}
+use lib.ListN.{length, getD, drop}
 use Rattle.rules.specs.Sum.{Sum, add, number}
 use Rattle.rules.specs.Rule.{Junction, and, or, Quantifier, for-some, for-all, Test, positive, divisible, is-zero}
 use Rattle.rules.specs.Rule.{Rule, Constant, Join, Literal}
@@ -23,7 +23,7 @@ use Rattle.tables.proofs.WordLaws.{words-length, words-from}
 use Rattle.tables.proofs.WalkLaws.{part}
 use Rattle.tables.proofs.Inversion.{join-kind, test-kind, bind-kind}
 use Rattle.tables.proofs.Parts.{Parts, parts, a-constant, a-join, a-not, a-literal, a-bind}
-use Rattle.tables.proofs.Parts.{part-shorter, few-part, root-there, right-there}
+use Rattle.tables.proofs.Parts.{bytes-from, part-shorter, few-part, root-there, right-there}
 use Rattle.literals.specs.Literal.{LiteralAt}
 use Rattle.literals.specs.Changes.{becomes}
 use Rattle.judging.specs.Judging.{bit, Says, put-into, at-sum}
@@ -57,10 +57,6 @@ module _ (q : Call) where
   abbrev pub Judges : ℕ → ℕ → Type 0
   Judges trues falses = (a : Rule) (w : Sum) (k : ℕ) → WalkingFor a → Shifted (q .x) w (q .shift) → k < 64
       → Says trues falses k (at-sum (q .far) (q .x) w k a)
-
--- the bytes from e on, as `&l[e..]` lends them
-abbrev pub bytes-from : List ℕ → ℕ → List ℕ
-bytes-from l e = take (length l - e) (drop e l)
 
 -- the call on what starts e bytes further in the entries, and b in the bodies
 abbrev pub further : Call → ℕ → ℕ → ℕ → ℕ → Call

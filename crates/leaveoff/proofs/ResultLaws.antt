@@ -27,7 +27,7 @@ use Rattle.tables.specs.Settings.{IsSet}
 use Rattle.tables.specs.Standing.{Stands}
 use Rattle.tables.proofs.Inversion.{Shape, shape, constant, join, negation, literal, bind}
 use Rattle.tables.proofs.SettingLaws.{no-settings, same-settings, settings-are}
-use Rattle.tables.proofs.WordLaws.{signed-low, signed-high, words-length, words-take, words-from}
+use Rattle.tables.proofs.WordLaws.{signed-low, signed-high, bits-signed, words-length, words-take, words-from}
 use Rattle.tables.proofs.WalkLaws.{part}
 use Rattle.bodies.specs.Body.{SomeBody}
 use Rattle.bodies.specs.Cursor.{literals-of}
@@ -233,15 +233,6 @@ answer-words r e = ap (λ (a : Answer). a .words) e
 
 -- ---- the bytes of a table
 
-bits-back : (u : ℕ) → u < 4294967296 → bits (signed u) ≡ u
-bits-back u h = by (ltb u 2147483648) refl
-  where
-    by : (b : Bool) → ltb u 2147483648 ≡ b → bits (signed u) ≡ u
-    by true t = ap bits (signed-low u (ltb-true _ _ t))
-    by false t =
-        let back : 4294967295 - (4294967295 - u) ≡ u = omega arith in
-        ap bits (signed-high u (ltb-false _ _ t)) ∙ back
-
 -- the four bytes of a number of 32 bits
 digits : (n a b c d : ℕ) → a < 256 → b < 256 → c < 256 → d < 256 → n ≡ a + 256 * (b + 256 * (c + 256 * d))
     → (a ≡ n % 256) × (b ≡ n / 256 % 256) × (c ≡ n / 65536 % 256) × (d ≡ n / 16777216 % 256)
@@ -267,7 +258,7 @@ first-bytes (a ∷ b ∷ c ∷ []) (w ∷ ws) after h e = absurd (omega (arith, 
 first-bytes (a ∷ b ∷ c ∷ d ∷ l) (w ∷ ws) after h e =
     let u : ℕ = a + 256 * (b + 256 * (c + 256 * d)) in
     let word : signed u ≡ w = ap (λ (l : List ℤ). getD l 0 (pos 0)) e in
-    let here : bits w ≡ u = sym (ap bits word) ∙ bits-back u (omega (arith, h 0, h 1, h 2, h 3)) in
+    let here : bits w ≡ u = sym (ap bits word) ∙ bits-signed u (omega (arith, h 0, h 1, h 2, h 3)) in
     let next : suc (length ws) * 4 ≡ suc (suc (suc (suc (length ws * 4)))) = omega arith in
     let (e0, e1, e2, e3) = digits (bits w) a b c d (h 0) (h 1) (h 2) (h 3) here in
     ap (λ (m : ℕ). take m (a ∷ b ∷ c ∷ d ∷ l)) next

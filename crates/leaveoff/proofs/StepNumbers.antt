@@ -17,14 +17,8 @@ use Rattle.rules.specs.Eliminate.{over-limit, most-period, step-table, on-chose
 use Rattle.rules.specs.Eliminate.{common-step, disjunction-step, round, rounds, eliminate}
 use Rattle.rules.specs.LeaveOff.{question, leave-off}
 use Rattle.rules.specs.Calls.{rule-of}
-use Rattle.rules.proofs.Numbers.{By, rule-of-by}
+use Rattle.rules.proofs.Numbers.{By, by-then, rule-of-by}
 use Rattle.leaveoff.specs.Outcome.{steps-of, test-of}
-
--- one part, and what follows where it gives something
-then-by : {A B : Type 0} (m : ℕ) (x : Result A) (f : A → Result B) → By m x → ((a : A) → By m (f a)) → By m (x >>= f)
-unfolding By _>>=_
-then-by m (given a) f h g = g a
-then-by m (refused n) f h g = h
 
 -- a test, and what follows where it is passed
 test-by : (m : ℕ) (b : Bool) (n : ℕ) → 1 ≤ n → n ≤ m → {B : Type 0} (f : Unit {0} → Result B) → By m (f tt)
@@ -83,16 +77,16 @@ module _ (room : ℕ) (r : Rule) where
 round-by : (room : ℕ) (r : Rule) → By 7 (round room r)
 unfolding round
 round-by room r =
-    then-by 7 (for-all-step room r >>= normal-step room >>= common-step room) (disjunction-step room)
-    (then-by 7 (for-all-step room r >>= normal-step room) (common-step room)
-    (then-by 7 (for-all-step room r) (normal-step room) (for-all-by room r) (normal-by room)) (common-by room))
+    by-then 7 (for-all-step room r >>= normal-step room >>= common-step room) (disjunction-step room)
+    (by-then 7 (for-all-step room r >>= normal-step room) (common-step room)
+    (by-then 7 (for-all-step room r) (normal-step room) (for-all-by room r) (normal-by room)) (common-by room))
     (disjunction-by room)
 
 rounds-by : (n room : ℕ) (r : Rule) → By 7 (rounds n room r)
 unfolding By rounds
 rounds-by zero room r = tt
 rounds-by (suc n) room r =
-    while (quantified r) (then-by 7 (round room r) (rounds n room) (round-by room r) (rounds-by n room))
+    while (quantified r) (by-then 7 (round room r) (rounds n room) (round-by room r) (rounds-by n room))
   where
     while : (b : Bool) → By 7 (round room r >>= rounds n room)
         → By {A = Rule} 7 (elim b [ false ↦ given r | true ↦ round room r >>= rounds n room ])
@@ -104,12 +98,12 @@ rounds-by (suc n) room r =
 eliminate-by : (room : ℕ) (r : Rule) → By 7 (eliminate room r)
 unfolding eliminate
 eliminate-by room r =
-    then-by 7 (step-table room r) _ (step-table-by room r) (λ f. rounds-by (quantifiers f) room f)
+    by-then 7 (step-table room r) _ (step-table-by room r) (λ f. rounds-by (quantifiers f) room f)
 
 pub steps-by : (l : List ℕ) (room : ℕ) → By 7 (steps-of l room)
 unfolding steps-of
 steps-by l room =
-    then-by 7 (rule-of l) (eliminate room) (more-by 4 7 (omega arith) (rule-of l) (rule-of-by l)) (eliminate-by room)
+    by-then 7 (rule-of l) (eliminate room) (more-by 4 7 (omega arith) (rule-of l) (rule-of-by l)) (eliminate-by room)
 
 -- ---- the leave-off test
 
@@ -124,5 +118,5 @@ leave-off-by room v r =
 pub tests-by : (l : List ℕ) (v : ℤ) (room : ℕ) → By 8 (test-of l v room)
 unfolding test-of
 tests-by l v room =
-    then-by 8 (rule-of l) (leave-off room v) (more-by 4 8 (omega arith) (rule-of l) (rule-of-by l))
+    by-then 8 (rule-of l) (leave-off room v) (more-by 4 8 (omega arith) (rule-of l) (rule-of-by l))
     (leave-off-by room v)

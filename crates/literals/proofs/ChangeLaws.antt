@@ -109,7 +109,7 @@ row-full {c} {x} e h s p = ap (Plus x) (toZ-ofZ h ∙ p) ∙ sym (ap (λ (c : Ch
 
 -- ---- what the row makes of T is the changed sum
 
-put-word : (i x : ℕ) (a : ℤ) (s : Sum) → factor i (put x a s) ≡ cond (eqb i x) a (factor i s)
+pub put-word : (i x : ℕ) (a : ℤ) (s : Sum) → factor i (put x a s) ≡ cond (eqb i x) a (factor i s)
 put-word i x a s = by (eqb i x) refl
   where
     by : (b : Bool) → eqb i x ≡ b → factor i (put x a s) ≡ cond b a (factor i s)

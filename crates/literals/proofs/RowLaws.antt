@@ -13,10 +13,11 @@ use mir.Syntax.{w32, w64}
 use mir.Val.{SFits, Fits, toZ, ofZ}
 use mir.Facts.{toZ-ofZ, toZ-pos}
 use Rattle.whole.specs.Integers.{eqZ}
+use Rattle.whole.proofs.Divisibility.{size-neg}
 use Rattle.rules.specs.Steps.{sign}
 use Rattle.rules.specs.Eliminate.{most-period}
 use Rattle.literals.specs.Rows.{most-word, most-put}
-use Rattle.literals.proofs.Sizes.{read, wide-is, size-neg, size-mul, fits-size}
+use Rattle.literals.proofs.Sizes.{read, wide-is, size-mul, fits-size}
 use Rattle.literals.proofs.Ranges.{never}
 
 -- ---- a sign and a size

@@ -8,11 +8,12 @@ use native.Mathlib.Omega.{arith}
 use borrow.Author.Needs.{sfits-of}
 use borrow.Author.Tests.{ltb-true}
 use lib.Dec.{ltb}
-use lib.IntN.{ℤ, pos, negsuc, negℤ, natAbs, _+ℤ_, _*ℤ_}
+use lib.IntN.{ℤ, pos, negsuc, natAbs, _+ℤ_, _*ℤ_}
 use lib.Signed.{mag, natAbs-le, quotZ}
 use mir.Syntax.{Width, w32, w64}
 use mir.Val.{SFits, toZ, ofZ, hbits}
 use mir.Facts.{toZ-ofZ, sfits-widen}
+use Rattle.whole.proofs.Divisibility.{size-neg}
 
 -- ---- a word cast to 64 bits
 
@@ -23,11 +24,6 @@ pub wide-is : {z : ℤ} → SFits w32 z → toZ w64 (ofZ w64 (toZ w32 (ofZ w32 z
 wide-is f = rw (toZ-ofZ f) (toZ-ofZ (sfits-widen tt f))
 
 -- ---- sizes
-
-pub size-neg : (z : ℤ) → natAbs (negℤ z) ≡ natAbs z
-size-neg (pos zero) = refl
-size-neg (pos (suc n)) = refl
-size-neg (negsuc n) = refl
 
 pub size-mul : (a b : ℤ) → natAbs (a *ℤ b) ≡ natAbs a * natAbs b
 size-mul (pos a) (pos b) = refl

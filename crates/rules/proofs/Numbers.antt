@@ -52,7 +52,7 @@ unfoldable pub By : {A : Type 0} → ℕ → Result A → Type 0
 By m (given a) = Unit {0}
 By m (refused n) = (1 ≤ n) × (n ≤ m)
 
-by-then : {A B : Type 0} (m : ℕ) (x : Result A) (f : A → Result B) → By m x → ((a : A) → By m (f a)) → By m (x >>= f)
+pub by-then : {A B : Type 0} (m : ℕ) (x : Result A) (f : A → Result B) → By m x → ((a : A) → By m (f a)) → By m (x >>= f)
 unfolding By _>>=_
 by-then m (given a) f h g = g a
 by-then m (refused n) f h g = h

@@ -31,9 +31,6 @@ tree-forth ds r e =
     let (f, first, second) = parts (trees ds) only-tree e in
     trees-forth ds f first ∙ only-forth f r second
 
-refused-inj : {A : Type 0} {m n : ℕ} → _≡_ {A = Result A} (refused m) (refused n) → m ≡ n
-refused-inj e = cc
-
 -- every refusal of the tree is 4
 Four : {A : Type 0} → Result A → Type 0
 Four (refused k) = k ≡ 4

@@ -8,10 +8,9 @@ use mathlib.Core.Logic.{_⊎_, inl, inr}
 use mathlib.Core.List.{List}
 use Prim.Native.Nat.{ℕ, _+_, _-_, _*_, _<_, _≤_}
 use native.Mathlib.Omega.{arith}
-use borrow.Rule.Slice.PartAt.{part-to-end}
 use lib.Dec.{T, eqb}
 use lib.IntN.{ℤ, pos}
-use lib.ListN.{length, getD, take, drop, length-drop}
+use lib.ListN.{length, getD, drop}
 use lib.Seq.{drop-drop}
 use Rattle.rules.specs.Sum.{Sum, number, all-within}
 use Rattle.rules.specs.Rule.{Junction, and, or, Quantifier, Rule, Constant, Join, Literal}
@@ -29,9 +28,8 @@ use Rattle.tables.specs.Standing.{Stands, Few, StandingJoin, RightOf}
 use Rattle.tables.specs.declared.sides.Side.{Side}
 use Rattle.tables.proofs.WordLaws.{words-from, words-length}
 use Rattle.tables.proofs.WalkLaws.{part}
-use Rattle.tables.proofs.Inversion.{join-kind}
 use Rattle.tables.proofs.Standings.{inside-entries}
-use Rattle.tables.proofs.Parts.{few-part, root-there, right-there}
+use Rattle.tables.proofs.Parts.{bytes-from, bytes-length, moved, few-moved, few-part, root-there, right-there}
 use Rattle.tables.proofs.Parts.{Parts, parts, a-constant, a-join, a-not, a-literal, a-bind}
 use Rattle.builder.specs.Built.{Built, most-counted, junction}
 use Rattle.builder.specs.declared.push.State.{State}
@@ -48,7 +46,8 @@ use Rattle.steps.specs.Making.{new-of, Makeable, Making, SomeMaking, Aro
 use Rattle.literals.specs.declared.change.Change.the-variants.{Same}
 use Rattle.walks.specs.declared.chain.Links.{Links}
 use Rattle.steps.specs.declared.made.Step.{Step}
-use Rattle.walks.proofs.ChainLaws.{moved, chain-weight, below-formed, chain-part, chain-inside}
+use Rattle.walks.proofs.FoldLaws.{kind-junction}
+use Rattle.walks.proofs.ChainLaws.{chain-weight, below-formed, chain-part, chain-inside}
 use Rattle.steps.proofs.ReplaceLaws.{some-chosen, right-chosen, left-chosen, before-right, behind-left, put-in}
 use Rattle.steps.proofs.ReplaceLaws.{replace-sides, Under, under-chain, AtRoot, root-chosen, replace-lighter}
 use Rattle.steps.proofs.ReplaceLaws.{extra, SidesLighter, sides-lighter}
@@ -128,19 +127,6 @@ module _ (c : Call) where
   Folds l f = (r : Rule) (ds : List Node) → ReadyFor r ds
       → Gives (words l) (c .state) ds (fold (changed Same (c .nothing) r)) f
 
--- the bytes from e on, as `&l[e..]` lends them
-abbrev pub bytes-from : List ℕ → ℕ → List ℕ
-bytes-from l e = take (length l - e) (drop e l)
-
-bytes-length : (l : List ℕ) (e : ℕ) → length (bytes-from l e) ≡ length l - e
-bytes-length l e = ap length (part-to-end l e) ∙ length-drop e l
-
-few-moved : {es fs bs cs : List ℤ} {n m p q : ℕ} → es ≡ fs → bs ≡ cs → n ≡ m → p ≡ q → Few es bs n p → Few fs cs m q
-few-moved e f g h few = record {
-  few-nodes = omega (arith, few .few-nodes, ap length e, g);
-  few-words = omega (arith, few .few-words, ap length f, h);
-}
-
 -- the words behind the chosen quantifier's, from a part that starts w words further
 behind-part : (l : List ℕ) (w i m : ℕ) → m ≡ w + i → drop (m + 2) (words l) ≡ drop (i + 2) (part l w)
 behind-part l w i m e =
@@ -158,7 +144,7 @@ record PartFor (c : Call) (r : Rule) (ds : List Node) : Type 0 where
   built : Built (words (c .out)) (c .state) ds
   room : length (words (c .out)) ≤ most-words
 
-unchanged : (u : Sum) (r : Rule) → changed Same u r ≡ r
+pub unchanged : (u : Sum) (r : Rule) → changed Same u r ≡ r
 unfolding changed map-literals becomes
 unchanged u r = same-body r
 
@@ -258,11 +244,6 @@ pub record JoinFor (c : Call) (k : ℕ) (r : Rule) (q : Quantifier) (x : ℕ) (a
   formed : WellFormed left-side × WellFormed right-side
   heavy : weight (Join (junction (eqb k 2)) left-side right-side) ≡ 2 + weight left-side + weight right-side
   around : AroundFor c (Join (junction (eqb k 2)) left-side right-side) q x a ds
-
-kind-junction : (k : ℕ) (j : Junction) → k ≡ join-kind j → j ≡ junction (eqb k 2)
-unfolding junction
-kind-junction k and e = ap (λ (i : ℕ). junction (eqb i 2)) (sym e)
-kind-junction k or e = ap (λ (i : ℕ). junction (eqb i 2)) (sym e)
 
 join-for : {c : Call} {k : ℕ} → Kinded c k → {r : Rule} {q : Quantifier} {x : ℕ} {a : Rule} {ds : List Node}
     → WithinFor c r q x a ds → JoinFor c k r q x a ds

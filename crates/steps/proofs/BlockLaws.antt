@@ -1,9 +1,9 @@
 -- What a block's masks say of the disjuncts, and what judging asks for.
 -- Assumes nothing.
-use mathlib.Core.Path.{_≡_, refl, sym, _∙_, ap, subst}
+use mathlib.Core.Path.{_≡_, sym, _∙_, ap, subst}
 use mathlib.Core.Bool.{Bool, true, false}
 use mathlib.Core.List.{List, []}
-use Prim.Native.Nat.{ℕ, zero, suc, _+_, _/_, _^_, _<_, _≤_}
+use Prim.Native.Nat.{ℕ, _+_, _/_, _^_, _<_, _≤_}
 use native.Mathlib.Decide.{ℕ-discrete}
 use native.Mathlib.Omega.{arith}
 use lib.Bits.{bitAnd, and-mask}
@@ -15,9 +15,10 @@ use Rattle.rules.specs.Sum.{Sum, factor, add, number, limit, all-within}
 use Rattle.rules.specs.Rule.{Rule}
 use Rattle.rules.specs.Fold.{fold}
 use Rattle.rules.specs.Steps.{bounds}
-use Rattle.rules.proofs.Sums.{factor-add, number-factor, length-add}
+use Rattle.rules.proofs.Sums.{factor-add, length-add}
 use Rattle.bodies.specs.Body.{BoundAt, BoundsAt}
 use Rattle.judging.proofs.SaidLaws.{settled-is}
+use Rattle.judging.proofs.ShiftLaws.{zero-number}
 use Rattle.literals.specs.Changes.{InRange}
 use Rattle.walks.specs.Walk.{changed}
 use Rattle.steps.specs.Put.{SomeBound}
@@ -44,11 +45,7 @@ bit-tested mask k = ap (λ (x : ℕ). eqb x 1) (and-mask (mask / 2 ^ k) 1)
 pub none-added : (b : Sum) → length b ≡ 7 → add b (number (pos 0)) ≡ b
 none-added b seven = ext-getD (pos 0) (add b (number (pos 0))) b
     (length-add b (number (pos 0)) seven ∙ sym seven)
-    (λ i h. factor-add i b (number (pos 0)) ∙ ap (λ (z : ℤ). factor i b +ℤ z) (zero-at i) ∙ +ℤ-idr (factor i b))
-  where
-    zero-at : (i : ℕ) → factor i (number (pos 0)) ≡ pos 0
-    zero-at zero = refl
-    zero-at (suc i) = number-factor (suc i) (pos 0) (omega arith)
+    (λ i h. factor-add i b (number (pos 0)) ∙ ap (λ (z : ℤ). factor i b +ℤ z) (zero-number i) ∙ +ℤ-idr (factor i b))
 
 pub far-same : (x : ℕ) (u : Sum) → u ≡ number (pos 0) → (m : ℕ) (a : Rule) → at-sum true x u m a ≡ far-at x a m
 unfolding at-sum put-into add changed

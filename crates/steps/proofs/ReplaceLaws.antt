@@ -181,7 +181,7 @@ module _ {q : Quantifier} {x : ℕ} {a : Rule} where
 
 -- ---- no more words are put than those of the rule and of what is put in
 
-put-lighter : {q : Quantifier} {x : ℕ} {a new r s : Rule} → Put q x a new r s
+pub put-lighter : {q : Quantifier} {x : ℕ} {a new r s : Rule} → Put q x a new r s
     → weight (fold s) ≤ weight r + weight (fold new)
 unfolding weight fold wrap chain-words
 put-lighter (here e) = omega arith

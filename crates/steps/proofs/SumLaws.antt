@@ -27,6 +27,7 @@ use Rattle.rules.proofs.Sums.{length-scale, length-add, length-put}
 use Rattle.bodies.specs.Body.{BoundAt}
 use Rattle.bodies.proofs.LiteralWords.{sum-word}
 use Rattle.literals.specs.Rows.{most-put}
+use Rattle.literals.proofs.Sizes.{size-add}
 use Rattle.literals.specs.Changes.{InRange, Usable, Fair}
 use Rattle.literals.specs.declared.change.Change.the-variants.{Far, Full}
 
@@ -40,10 +41,6 @@ size-parts (negsuc n) = omega arith
 difference-size : (z : ℤ) (p q : ℕ) → U z + q ≡ p + D z → natAbs z ≤ p + q
 difference-size (pos n) p q e = omega (arith, e)
 difference-size (negsuc n) p q e = omega (arith, e)
-
-sum-size : (a b : ℤ) → natAbs (a +ℤ b) ≤ natAbs a + natAbs b
-sum-size a b =
-    omega (arith, difference-size (a +ℤ b) (U a + U b) (D a + D b) (sum a b), size-parts a, size-parts b)
 
 negated-size : (z : ℤ) → natAbs (pos 0 -ℤ z) ≤ natAbs z
 negated-size z = omega (arith, difference-size (pos 0 -ℤ z) (D z) (U z) (omega (arith, dif (pos 0) z)), size-parts z)
@@ -175,7 +172,7 @@ module _ {bs : List ℤ} {x p : ℕ} (b : Sum) (l : BoundAt bs x p b) (j : ℕ) 
   above-small : j ≤ most-period → (i : ℕ) → natAbs (factor i (above b j)) ≤ most-put
   above-small h i =
       subst (λ (z : ℤ). natAbs z ≤ most-put) (sym (factor-add i b (number (pos j))))
-      (omega (arith, sum-size (factor i b) (factor i (number (pos j))), bound-small l i, number-small j i h))
+      (omega (arith, size-add (factor i b) (factor i (number (pos j))), bound-small l i, number-small j i h))
 
   pub above-usable : InRange x → j ≤ most-period → Usable (Full x) (above b j)
   above-usable r h = record {
@@ -225,7 +222,7 @@ module _ (z : ℤ) (ok : mag z < 2 ^ hbits w64) where
 
     pub added-fits : SFits w64 (toZ w64 (ofZ w64 z) +ℤ toZ w64 j)
     added-fits =
-        subst (SFits w64) (sym added) (small-fits (z +ℤ pos j) (omega (arith, sum-size z (pos j), small, h)))
+        subst (SFits w64) (sym added) (small-fits (z +ℤ pos j) (omega (arith, size-add z (pos j), small, h)))
 
     pub added-back : {c : ℤ} → z ≡ c → toZ w64 (ofZ w64 (toZ w64 (ofZ w64 z) +ℤ toZ w64 j)) ≡ c +ℤ pos j
     added-back e = toZ-ofZ added-fits ∙ added ∙ ap (λ (y : ℤ). y +ℤ pos j) e

@@ -24,6 +24,27 @@ use Rattle.tables.proofs.Inversion.{constant, join, negation, literal, 
 
 -- ---- parts
 
+-- the bytes of a slice from byte e on
+abbrev pub bytes-from : List ℕ → ℕ → List ℕ
+bytes-from l e = take (length l - e) (drop e l)
+
+pub bytes-length : (l : List ℕ) (e : ℕ) → length (bytes-from l e) ≡ length l - e
+bytes-length l e = ap length (part-to-end l e) ∙ length-drop e l
+
+-- the same parts, otherwise said
+pub moved : {es fs bs cs : List ℤ} {n m p q : ℕ} (r : Rule) → es ≡ fs → bs ≡ cs → n ≡ m → p ≡ q → Stands es bs n p r
+    → Stands fs cs m q r
+moved {es} {fs} {bs} {cs} {n} {m} {p} {q} r e f g h s =
+    subst (λ (x : List ℤ). Stands x cs m q r) e
+    (subst (λ (x : List ℤ). Stands es x m q r) f
+    (subst (λ (x : ℕ). Stands es bs x q r) g (subst (λ (x : ℕ). Stands es bs n x r) h s)))
+
+pub few-moved : {es fs bs cs : List ℤ} {n m p q : ℕ} → es ≡ fs → bs ≡ cs → n ≡ m → p ≡ q → Few es bs n p → Few fs cs m q
+few-moved e f g h few = record {
+  few-nodes = omega (arith, few .few-nodes, ap length e, g);
+  few-words = omega (arith, few .few-words, ap length f, h);
+}
+
 pub part-words : (l : List ℕ) (i : ℕ) → length (part l i) ≡ length (words l) - i
 part-words l i = ap length (words-from l i) ∙ length-drop i (words l)
 

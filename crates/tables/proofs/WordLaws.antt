@@ -46,7 +46,7 @@ number-is u n h e = ap signed e ∙ signed-low n h
 pub signed-high : (u : ℕ) → 2147483648 ≤ u → signed u ≡ negsuc (4294967295 - u)
 signed-high u h = rw (le-ltb u 2147483648 h)
 
-bits-signed : (u : ℕ) → u < 4294967296 → bits (signed u) ≡ u
+pub bits-signed : (u : ℕ) → u < 4294967296 → bits (signed u) ≡ u
 bits-signed u h = by (ltb u 2147483648) refl
   where
     by : (b : Bool) → ltb u 2147483648 ≡ b → bits (signed u) ≡ u

@@ -1,6 +1,6 @@
 -- Chains of nots and quantifiers: one node more, what stands under a chain, and what folding makes of one.
 -- Assumes nothing.
-use mathlib.Core.Path.{_≡_, refl, sym, _∙_, ap, subst}
+use mathlib.Core.Path.{_≡_, refl, sym, _∙_, ap}
 use mathlib.Core.Bool.{Bool}
 use mathlib.Core.List.{List}
 use Prim.Native.Nat.{ℕ, zero, suc, _+_, _<_, _≤_}
@@ -21,6 +21,7 @@ use Rattle.tables.proofs.WordLaws.{words-from}
 use Rattle.tables.proofs.WalkLaws.{part}
 use Rattle.tables.proofs.Parts.{few-part}
 use Rattle.tables.proofs.Standings.{entry, under-not, under-bind, inside-entries, inside-bodies}
+use Rattle.tables.proofs.Parts.{moved}
 use Rattle.walks.specs.Chain.{Chained, below, chain-words, wrap}
 
 -- ---- one node more
@@ -102,14 +103,6 @@ below-formed (suc k) (Literal t s) h = h
 below-formed (suc k) (Bind q v a) h = below-formed k a (h .1)
 
 -- ---- what stands under a chain
-
--- the same lists and numbers, counted otherwise
-pub moved : {es fs bs cs : List ℤ} {n m p q : ℕ} (r : Rule) → es ≡ fs → bs ≡ cs → n ≡ m → p ≡ q → Stands es bs n p r
-    → Stands fs cs m q r
-moved {es} {fs} {bs} {cs} {n} {m} {p} {q} r e f g h s =
-    subst (λ (x : List ℤ). Stands x cs m q r) e
-    (subst (λ (x : List ℤ). Stands es x m q r) f
-    (subst (λ (x : ℕ). Stands es bs x q r) g (subst (λ (x : ℕ). Stands es bs n x r) h s)))
 
 -- behind a node of w words, and then behind k nodes of v words
 further : (es bs : List ℤ) (n p w k v : ℕ) (r : Rule)

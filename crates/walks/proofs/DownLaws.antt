@@ -15,7 +15,8 @@ use Rattle.rules.specs.Calls.{signed}
 use Rattle.tables.specs.Standing.{Stands}
 use Rattle.tables.proofs.Inversion.{Shape, shape, constant, join, negation, literal, bind}
 use Rattle.walks.specs.Chain.{unary, Chained, below, chain-words, LinkOf, ChainOf, SomeStands}
-use Rattle.walks.proofs.ChainLaws.{chain-stands, chain-inside, chained-more, words-more, moved}
+use Rattle.tables.proofs.Parts.{moved}
+use Rattle.walks.proofs.ChainLaws.{chain-stands, chain-inside, chained-more, words-more}
 
 -- ---- the kind of a node
 

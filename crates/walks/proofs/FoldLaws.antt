@@ -7,10 +7,9 @@ use mathlib.Core.Logic.{_⊎_, inl, inr}
 use mathlib.Core.List.{List}
 use Prim.Native.Nat.{ℕ, _+_, _-_, _*_, _<_, _≤_}
 use native.Mathlib.Omega.{arith}
-use borrow.Rule.Slice.PartAt.{part-to-end}
 use lib.Dec.{T, eqb}
 use lib.IntN.{ℤ, pos}
-use lib.ListN.{length, getD, take, drop, length-drop}
+use lib.ListN.{length, getD}
 use Rattle.whole.proofs.Tests.{not-or}
 use Rattle.rules.specs.Sum.{Sum, number, setting}
 use Rattle.rules.specs.Rule.{Junction, and, or, for-some, for-all}
@@ -32,7 +31,7 @@ use Rattle.tables.specs.declared.sides.Side.{Side}
 use Rattle.tables.proofs.WordLaws.{words-length}
 use Rattle.tables.proofs.WalkLaws.{part}
 use Rattle.tables.proofs.Inversion.{test-kind, join-kind}
-use Rattle.tables.proofs.Parts.{few-part, root-there, right-there}
+use Rattle.tables.proofs.Parts.{bytes-from, bytes-length, moved, few-moved, few-part, root-there, right-there}
 use Rattle.tables.proofs.Parts.{Parts, parts, a-constant, a-join, a-not, a-literal, a-bind}
 use Rattle.builder.specs.Built.{Built, most-counted, junction}
 use Rattle.builder.specs.declared.push.State.{State}
@@ -49,7 +48,7 @@ use Rattle.walks.specs.Walk.{changed, Ready, SomeReady, Core, SomeCore}
 use Rattle.literals.specs.declared.change.Change.{Change}
 use Rattle.literals.specs.declared.change.Change.the-variants.{Same, Scaled, Far, Full}
 use Rattle.walks.specs.declared.chain.Links.{Links}
-use Rattle.walks.proofs.ChainLaws.{moved, chain-weight, below-formed, chain-part, chain-inside}
+use Rattle.walks.proofs.ChainLaws.{chain-weight, below-formed, chain-part, chain-inside}
 use Rattle.walks.proofs.ChainLaws.{wrap-fold, over-below}
 
 -- ---- a changed rule has no more words than before
@@ -130,19 +129,6 @@ module _ (q : Call) where
 
   abbrev pub FoldsCore : List ℕ → Folded → Type 0
   FoldsCore l r = (a : Rule) (ds : List Node) → CoreFor a ds → Gives (words l) (q .state) ds (made a) r
-
--- the bytes from e on, as `&l[e..]` lends them
-abbrev pub bytes-from : List ℕ → ℕ → List ℕ
-bytes-from l e = take (length l - e) (drop e l)
-
-bytes-length : (l : List ℕ) (e : ℕ) → length (bytes-from l e) ≡ length l - e
-bytes-length l e = ap length (part-to-end l e) ∙ length-drop e l
-
-few-moved : {es fs bs cs : List ℤ} {n m p q : ℕ} → es ≡ fs → bs ≡ cs → n ≡ m → p ≡ q → Few es bs n p → Few fs cs m q
-few-moved e f g h few = record {
-  few-nodes = omega (arith, few .few-nodes, ap length e, g);
-  few-words = omega (arith, few .few-words, ap length f, h);
-}
 
 -- ---- the kind is read
 
@@ -258,7 +244,7 @@ record JoinFor (q : Call) (k : ℕ) (a : Rule) (ds : List Node) : Type 0 where
       (q .node + (1 + count left-side)) (q .place + (2 + weight left-side)) right-side
   ready : ReadyFor q (Join (junction (eqb k 2)) left-side right-side) ds
 
-kind-junction : (k : ℕ) (j : Junction) → k ≡ join-kind j → j ≡ junction (eqb k 2)
+pub kind-junction : (k : ℕ) (j : Junction) → k ≡ join-kind j → j ≡ junction (eqb k 2)
 unfolding junction
 kind-junction k and e = ap (λ (i : ℕ). junction (eqb i 2)) (sym e)
 kind-junction k or e = ap (λ (i : ℕ). junction (eqb i 2)) (sym e)

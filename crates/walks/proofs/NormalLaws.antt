@@ -8,7 +8,7 @@ use Prim.Native.Nat.{ℕ, zero, suc, _+_, _-_, _*_, _<_, _≤_}
 use native.Mathlib.Omega.{arith}
 use lib.Dec.{eqb}
 use lib.IntN.{ℤ, pos}
-use lib.ListN.{length, getD, take, drop}
+use lib.ListN.{length, getD}
 use Rattle.rules.specs.Sum.{Sum}
 use Rattle.rules.specs.Rule.{Junction, and, or, Test, positive, divisible, is-zero}
 use Rattle.rules.specs.Rule.{Rule, Constant, Join, Literal, whether}
@@ -29,6 +29,7 @@ use Rattle.tables.proofs.WalkLaws.{part}
 use Rattle.tables.proofs.Inversion.{join-kind, test-kind}
 use Rattle.tables.proofs.Parts.{Parts, parts, a-constant, a-join, a-not, a-literal, a-bind}
 use Rattle.tables.proofs.Parts.{part-shorter, few-part, root-there, join-there, right-there}
+use Rattle.tables.proofs.Parts.{bytes-from}
 use Rattle.builder.specs.Built.{Built, most-counted, junction}
 use Rattle.builder.specs.declared.push.State.{State}
 use Rattle.folding.specs.Answers.{Gives, after, built-then}
@@ -46,10 +47,6 @@ use Rattle.walks.proofs.PairLaws.{right-over, left-over, BothMade, both
 abbrev pub Answers : Bool → List ℤ → List ℤ → ℕ → ℕ → ℕ → List ℤ → List ℤ → State → Normal → Type 0
 Answers plainly es bs n p x ws vs b f = (a : Rule) (ds : List Node) → NormalReady es bs n p x ws b a ds
     → Normalled vs b ds (normal plainly x a) f
-
--- the bytes from byte i on
-abbrev pub bytes-from : List ℕ → ℕ → List ℕ
-bytes-from l i = take (length l - i) (drop i l)
 
 -- ---- the truth value that a kind stands for, and whether it stands for an and
 

@@ -21,12 +21,13 @@ use Rattle.tables.proofs.WordLaws.{words-length}
 use Rattle.tables.proofs.WalkLaws.{part}
 use Rattle.tables.proofs.Parts.{part-shorter}
 use Rattle.builder.specs.declared.push.State.{State}
+use Rattle.tables.proofs.Parts.{bytes-from}
 use Rattle.walks.specs.Chain.{unary, Chained, below, ChainOf, SomeStands}
 use Rattle.walks.specs.Normal.{NormalReady, SomeNormalReady, Normalled}
 use Rattle.walks.specs.declared.chain.Links.{Links}
 use Rattle.walks.specs.declared.normal.Normal.{Normal}
 use Rattle.walks.proofs.ChainLaws.{chain-weight, below-formed, chain-part, chain-few, chain-inside}
-use Rattle.walks.proofs.NormalLaws.{Answers, bytes-from, Kinded, not-there}
+use Rattle.walks.proofs.NormalLaws.{Answers, Kinded, not-there}
 
 -- ---- what is under the nots, and how
 

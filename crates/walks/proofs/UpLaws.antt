@@ -19,6 +19,7 @@ use Rattle.rules.proofs.Encoding.{setting-range}
 use Rattle.tables.proofs.WordLaws.{number-of}
 use Rattle.tables.proofs.Standings.{inside-bodies}
 use Rattle.tables.proofs.Inversion.{Shape, shape, constant, join, negation, literal, bind, bind-kind}
+use Rattle.tables.proofs.Parts.{moved}
 use Rattle.builder.specs.Built.{most-counted, quantifier}
 use Rattle.builder.specs.declared.push.State.{State}
 use Rattle.folding.specs.Answers.{Gives, Answered}
@@ -30,7 +31,6 @@ use Rattle.walks.proofs.ChainLaws.{
   chained-last,
   chained-less,
   below-formed,
-  moved,
   chain-stands,
   chain-inside,
   chain-entry,

@@ -100,7 +100,7 @@ quotient-remainder {k} p (negsuc n) = ap negsuc (sym (div-add-mod n k)) ∙ law 
 
 -- ---- the test decides it, at every divisor
 
-size-neg : (z : ℤ) → natAbs (negℤ z) ≡ natAbs z
+pub size-neg : (z : ℤ) → natAbs (negℤ z) ≡ natAbs z
 size-neg (pos zero) = refl
 size-neg (pos (suc n)) = refl
 size-neg (negsuc n) = refl
