@@ -25,7 +25,27 @@ use Rattle.judging.specs.Shifts.{Shifted}
 use Rattle.judging.specs.Walks.{SomeSpine}
 use Rattle.judging.specs.declared.judge.Judged.{Judged}
 use Rattle.judging.proofs.SaidLaws.{says-throughout, drops-out, regroup}
-use Rattle.judging.proofs.WalkLaws.{Call, WalkingFor, SomeFor, Judges, further, Kinded, JoinKind, RightFound, sides-of, join-sum, left-walking, left-asks, entry-there, body-there, right-walking, right-side-asks, right-entries-there, right-bodies-there, right-entries-some}
+use Rattle.judging.proofs.WalkLaws.{
+  Call,
+  WalkingFor,
+  SomeFor,
+  Judges,
+  further,
+  Kinded,
+  JoinKind,
+  RightFound,
+  sides-of,
+  join-sum,
+  left-walking,
+  left-asks,
+  entry-there,
+  body-there,
+  right-walking,
+  right-side-asks,
+  right-entries-there,
+  right-bodies-there,
+  right-entries-some,
+}
 
 -- ---- further, and further again
 

@@ -28,18 +28,7 @@ pub fn on_a_large_stack(run: impl FnOnce() + Send) {
 
 pub fn matches(table: &[u8], values: [i32; 6]) -> Numbers {
     let values = values.map(i128::from);
-    let (number, verdict) =
-        match table::read(table).and_then(|rule| matching::matching(&rule, &values)) {
-            Ok(true) => (0, 1),
-            Ok(false) => (0, 2),
-            Err(refusal) => (refusal, 0),
-        };
-    Numbers {
-        number,
-        verdict,
-        words: 0,
-        settings: 0,
-    }
+    Numbers::matched(table::read(table).and_then(|rule| matching::matching(&rule, &values)))
 }
 
 pub fn eliminate(table: &[u8], out: &mut [u8], work: &mut [u8]) -> Numbers {

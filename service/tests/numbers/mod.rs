@@ -15,7 +15,7 @@ pub struct Numbers {
 
 impl Numbers {
     /// An answer without words and settings.
-    fn bare(number: u8, verdict: u8) -> Numbers {
+    pub fn bare(number: u8, verdict: u8) -> Numbers {
         Numbers {
             number,
             verdict,
@@ -28,14 +28,19 @@ impl Numbers {
     fn refused(refusal: Refusal) -> Numbers {
         Numbers::bare(refusal.number(), 0)
     }
+
+    /// Matching "answers its number with verdict 1 or 2 (0 when refused)".
+    pub fn matched(result: Result<bool, u8>) -> Numbers {
+        match result {
+            Ok(true) => Numbers::bare(0, 1),
+            Ok(false) => Numbers::bare(0, 2),
+            Err(number) => Numbers::bare(number, 0),
+        }
+    }
 }
 
 pub fn matches(table: &[u8], values: [i32; 6]) -> Numbers {
-    match service::matches(table, values) {
-        Ok(true) => Numbers::bare(0, 1),
-        Ok(false) => Numbers::bare(0, 2),
-        Err(refusal) => Numbers::refused(refusal),
-    }
+    Numbers::matched(service::matches(table, values).map_err(|refusal| refusal.number()))
 }
 
 pub fn eliminate(table: &[u8], out: &mut [u8], work: &mut [u8]) -> Numbers {

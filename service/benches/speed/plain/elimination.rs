@@ -40,12 +40,7 @@ pub fn leave(result: Result<(), u8>, out: &mut [u8], work: &mut [u8]) -> Numbers
     work.fill(0);
     if let Err(number) = result {
         out.fill(0);
-        return Numbers {
-            number,
-            verdict: 0,
-            words: 0,
-            settings: 0,
-        };
+        return Numbers::bare(number, 0);
     }
     let answer = answer(out.as_chunks().0);
     out[4 * answer.words as usize..].fill(0);

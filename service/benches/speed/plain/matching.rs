@@ -7,17 +7,7 @@ use crate::numbers::Numbers;
 const MOST_VALUE: u32 = 500_000_000;
 
 pub fn matches(table: &[u8], values: [i32; 6]) -> Numbers {
-    let (number, verdict) = match matching(table, &values) {
-        Ok(true) => (0, 1),
-        Ok(false) => (0, 2),
-        Err(refusal) => (refusal, 0),
-    };
-    Numbers {
-        number,
-        verdict,
-        words: 0,
-        settings: 0,
-    }
+    Numbers::matched(matching(table, &values))
 }
 
 fn matching(table: &[u8], values: &[i32; 6]) -> Result<bool, u8> {
