@@ -10,25 +10,14 @@ use Rattle.whole.specs.declared.Multiple.{Multiple}
 use Rattle.whole.specs.declared.Multiple.the-variants.{Least, OverLimit}
 use Rattle.whole.proofs.Multiples.{gcd-is, gcd-unique, lcm-is, lcm-unique}
 
-module _ (a b limit : ℕ) where
-  -- the promise determines the answer
-  pub bounded-unique : (p q : Multiple) → BoundedMultiple a b limit p → BoundedMultiple a b limit q → p ≡ q
-  unfolding BoundedMultiple
-  bounded-unique (Least m) (Least n) h k = ap Least (lcm-unique (h .0) (k .0))
-  bounded-unique (Least m) OverLimit h k = let over = k m (h .0) in absurd (omega arith)
-  bounded-unique OverLimit (Least n) h k = let over = h n (k .0) in absurd (omega arith)
-  bounded-unique OverLimit OverLimit h k = refl
-
-  -- what a caller learns in each arm of a `match`
-  pub bounded-least :
-      {r : Multiple} {m : ℕ} → r ≡ Least m → BoundedMultiple a b limit r → LeastCommonMultiple a b m × (m ≤ limit)
-  unfolding BoundedMultiple
-  bounded-least e h = subst (BoundedMultiple a b limit) e h
-
-  pub bounded-over :
-      {r : Multiple} → r ≡ OverLimit → BoundedMultiple a b limit r → (m : ℕ) → LeastCommonMultiple a b m → limit < m
-  unfolding BoundedMultiple
-  bounded-over e h = subst (BoundedMultiple a b limit) e h
+-- the promise determines the answer
+pub bounded-unique : (a b limit : ℕ) (p q : Multiple)
+    → BoundedMultiple a b limit p → BoundedMultiple a b limit q → p ≡ q
+unfolding BoundedMultiple
+bounded-unique a b limit (Least m) (Least n) h k = ap Least (lcm-unique (h .0) (k .0))
+bounded-unique a b limit (Least m) OverLimit h k = let over = k m (h .0) in absurd (omega arith)
+bounded-unique a b limit OverLimit (Least n) h k = let over = h n (k .0) in absurd (omega arith)
+bounded-unique a b limit OverLimit OverLimit h k = refl
 
 -- the multiple is a·(b/g), also where a and b are 0 and so is g
 pub multiple-by : {a b g : ℕ} → GreatestCommonDivisor a b g → LeastCommonMultiple a b (a * (b / g))

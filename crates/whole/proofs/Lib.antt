@@ -1,9 +1,10 @@
 pub mod Tests
 pub mod Lists
 pub mod Difference
-pub mod Ring
 pub mod Linear
-pub mod Order
+pub mod Integers
+pub mod Polynomials
+pub mod Ring
 pub mod Divisibility
 pub mod Multiples
 pub mod Cooper

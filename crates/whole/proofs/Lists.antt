@@ -27,6 +27,11 @@ module _ {A : Type 0} where
   all-imp f [] h = tt
   all-imp f (a ∷ l) h = (f a (h .0), all-imp f l (h .1))
 
+  pub all-of : {Q : A → Type 0} → ((a : A) → Q a) → (l : List A) → All Q l
+  unfolding All
+  all-of f [] = tt
+  all-of f (a ∷ l) = (f a, all-of f l)
+
   pub all-append : (Q : A → Type 0) (k l : List A) → All Q (k ++ l) ↔ (All Q k × All Q l)
   unfolding All
   all-append Q [] l = (λ h. (tt, h), λ h. h .1)

@@ -10,7 +10,7 @@ use lib.IntN.{ℤ, pos, _+ℤ_, _-ℤ_, _*ℤ_}
 use Rattle.whole.specs.Divides.{Divides}
 use Rattle.whole.specs.Multiples.{GreatestCommonDivisor, LeastCommonMultiple, euclid, gcd, lcm, lcms}
 use Rattle.whole.proofs.Difference.{zz, z1, z3, z4, z5}
-use Rattle.whole.proofs.Order.{*ℤ-≡}
+use Rattle.whole.proofs.Integers.{*ℤ-≡}
 use Rattle.whole.proofs.Ring.{rr, ring, r4, r6}
 use Rattle.whole.proofs.Lists.{All, all-imp}
 use Rattle.whole.proofs.Divisibility.{divides-zero, divides-self, divides-times, divides-add}

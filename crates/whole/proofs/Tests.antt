@@ -1,8 +1,8 @@
 -- What a test that passed says: joined tests, negations, equality of integers, and a choice made by a test.
 -- Assumes nothing.
-use mathlib.Core.Path.{_≡_, ap, subst}
+use mathlib.Core.Path.{_≡_, refl, sym, ap, subst}
 use mathlib.Core.Logic.{_↔_, _⊎_, inl, inr}
-use mathlib.Core.Bool.{Bool, true, false, not, _&&_, _||_, cond}
+use mathlib.Core.Bool.{Bool, true, false, not, _&&_, _||_, cond, false≢true}
 use lib.Dec.{T, T-not, not-T, eqb→eq, eqb-refl}
 use lib.IntN.{ℤ, pos, negsuc}
 use Rattle.whole.specs.Integers.{eqZ}
@@ -17,6 +17,27 @@ T-or false b = (λ t. inr t, λ h. elim h [ inl k ↦ absurd k | inr k ↦ k ])
 
 pub T-no : (a : Bool) → T (not a) ↔ (¬ T a)
 T-no a = (T-not a, not-T a)
+
+pub is-true : (b : Bool) → T b → b ≡ true
+is-true true h = refl
+is-true false h = absurd h
+
+pub is-false : (b : Bool) → T (not b) → b ≡ false
+is-false true h = absurd h
+is-false false h = refl
+
+pub not-passed : (b : Bool) → T b → not b ≡ false
+not-passed true h = refl
+not-passed false h = absurd h
+
+pub never : {A : Type 0} → false ≡ true → A
+never e = absurd (false≢true e)
+
+-- two tests that pass together are one
+pub same-truth : (a b : Bool) → T a ↔ T b → a ≡ b
+same-truth true b h = sym (is-true b (h .0 tt))
+same-truth false true h = absurd (h .1 tt)
+same-truth false false h = refl
 
 pub not-or : (a b : Bool) → T (not (a || b)) → T (not a) × T (not b)
 not-or true b h = absurd h
