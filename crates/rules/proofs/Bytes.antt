@@ -68,16 +68,16 @@ length-bytes (w ∷ ws) = omega (arith, length-bytes ws)
 abbrev Within : List ℤ → Type 0
 Within ws = T (all-within limit ws)
 
-after : (z : ℤ) (ws : List ℤ) → T (within limit z) → Within ws → Within (z ∷ ws)
+within-cons : (z : ℤ) (ws : List ℤ) → T (within limit z) → Within ws → Within (z ∷ ws)
 unfolding all-within
-after z ws s t = T-and (within limit z) (all-within limit ws) .1 (s, t)
+within-cons z ws s t = T-and (within limit z) (all-within limit ws) .1 (s, t)
 
 within-append : (us ws : List ℤ) → Within us → Within ws → Within (us ++ ws)
 unfolding all-within
 within-append [] ws s t = t
 within-append (u ∷ us) ws s t =
     let h = T-and (within limit u) (all-within limit us) .0 s in
-    after u (us ++ ws) (h .0) (within-append us ws (h .1) t)
+    within-cons u (us ++ ws) (h .0) (within-append us ws (h .1) t)
 
 starts-within : (p : ℕ) (ds : List Node) → p + total ds ≤ limit → Within (starts p ds)
 unfolding starts total all-within
@@ -85,7 +85,7 @@ starts-within p [] h = tt
 starts-within p (d ∷ ds) h =
     let next : ℕ = p + width d in
     let same : width d ≡ words-in d = unfold width in length-body 0 d in
-    after (pos p) (starts next ds) (le→leb p limit (omega arith)) (starts-within next ds (omega arith))
+    within-cons (pos p) (starts next ds) (le→leb p limit (omega arith)) (starts-within next ds (omega arith))
 
 -- the right child of node i has a number within the limit
 Near : ℕ → Node → Type 0
@@ -100,21 +100,21 @@ setting-within v t = le→leb v limit (omega (arith, setting-range v t .1))
 
 divisor-within : (k : ℕ) (s ws : List ℤ) → T (is-divisor (pos k)) → Within s → Within ws → Within (pos k ∷ s ++ ws)
 divisor-within k s ws d u t =
-    after (pos k) (s ++ ws) (le→leb k limit (divisor-range k d .1)) (within-append s ws u t)
+    within-cons (pos k) (s ++ ws) (le→leb k limit (divisor-range k d .1)) (within-append s ws u t)
 
 body-within : (i : ℕ) (d : Node) (ws : List ℤ) → Good d → Near i d → Within ws → Within (body i d ++ ws)
 unfolding body Good Near all-within
 body-within i (constant-node false) ws g n t = t
 body-within i (constant-node true) ws g n t = t
-body-within i (join-node and right) ws g n t = after (pos i +ℤ right) ws n t
-body-within i (join-node or right) ws g n t = after (pos i +ℤ right) ws n t
+body-within i (join-node and right) ws g n t = within-cons (pos i +ℤ right) ws n t
+body-within i (join-node or right) ws g n t = within-cons (pos i +ℤ right) ws n t
 body-within i not-node ws g n t = t
 body-within i (literal-node positive s) ws g n t = within-append s ws (g .1) t
 body-within i (literal-node (divisible true k) s) ws g n t = divisor-within k s ws (g .2) (g .1) t
 body-within i (literal-node (divisible false k) s) ws g n t = divisor-within k s ws (g .2) (g .1) t
 body-within i (literal-node is-zero s) ws g n t = within-append s ws (g .1) t
-body-within i (bind-node for-some v) ws g n t = after (pos v) ws (setting-within v g) t
-body-within i (bind-node for-all v) ws g n t = after (pos v) ws (setting-within v g) t
+body-within i (bind-node for-some v) ws g n t = within-cons (pos v) ws (setting-within v g) t
+body-within i (bind-node for-all v) ws g n t = within-cons (pos v) ws (setting-within v g) t
 
 -- the bodies of a rule from node i on lie within the limit, where those that follow them do
 bodies-within : (r : Rule) (i : ℕ) (ds : List Node) → WellFormed r → i + count r ≤ limit
@@ -145,7 +145,7 @@ encode-within r w h =
     let all : size r ≡ 1 + count r + weight r = size-is r in
     let entries : Within es = starts-within (n + 1) ds (omega (arith, weight-is r)) in
     let rest : Within (bodies 0 ds) = rw (append-nil ds) at (bodies-within r 0 [] w (omega arith) (λ j e. tt)) in
-    after (pos n) (es ++ bodies 0 ds) (le→leb n limit (omega arith)) (within-append es (bodies 0 ds) entries rest)
+    within-cons (pos n) (es ++ bodies 0 ds) (le→leb n limit (omega arith)) (within-append es (bodies 0 ds) entries rest)
 
 -- ---- rules
 

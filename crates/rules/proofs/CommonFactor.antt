@@ -16,17 +16,17 @@ use Rattle.whole.proofs.Tests.{cond-ind}
 use Rattle.whole.proofs.Lists.{All}
 use Rattle.whole.proofs.Difference.{zz, z1}
 use Rattle.whole.proofs.Ring.{rr, ring, r4}
-use Rattle.whole.proofs.Order.{positive-scale, *ℤ-assoc}
+use Rattle.whole.proofs.Integers.{positive-scale, *ℤ-assoc}
 use Rattle.whole.proofs.Divisibility.{divides-scale, divides-times}
 use Rattle.whole.proofs.Multiples.{quotient-exact, quotient-pos, lcms-pos, lcms-divided}
 use Rattle.rules.specs.Sum.{Sum, Choice, with, factor, put, scale, value}
-use Rattle.rules.specs.Rule.{Test, positive, divisible, is-zero, Rule, Some, Passes, Holds}
+use Rattle.rules.specs.Rule.{Test, positive, divisible, is-zero, Rule, Literal, Some, Passes, Holds}
 use Rattle.rules.specs.Literals.{gather, map-literals}
 use Rattle.rules.specs.Steps.{size-of, common-factor, multiplier, times, sign, scale-literal, scaled}
-use Rattle.rules.specs.Laws.{Normal, NoZero, CommonFactorKeeps}
+use Rattle.rules.specs.Laws.{Each, Normal, NoZero, CommonFactorKeeps}
 use Rattle.rules.proofs.Sums.{rest, value-with, value-put, value-setting, rest-scale}
 use Rattle.rules.proofs.Meaning.{whether-iff, at-equal}
-use Rattle.rules.proofs.OverLiterals.{normal-imp, normal-both, gathered-all, all-gathered, map-keeps}
+use Rattle.rules.proofs.OverLiterals.{normal-imp, each-normal, normal-each, map-keeps, gathered, each-gathered}
 
 -- ---- D is positive, and a multiple of the size of each nonzero factor
 
@@ -40,28 +40,28 @@ sizes-positive x t s = by-factor (factor x s)
         cond-ind (not (eqZ (pos (suc n)) (pos 0))) (suc n ∷ []) [] (All (λ k. 0 < k)) (λ h. (omega arith, tt)) (λ h. tt)
     by-factor (negsuc n) = (omega arith, tt)
 
-pub common-factor-pos : (x : ℕ) (a : Rule) → Normal NoZero a → 0 < common-factor x a
+pub common-factor-pos : (x : ℕ) (a : Rule) → 0 < common-factor x a
 unfolding common-factor
-common-factor-pos x a n =
-    let sizes : List ℕ = gather (size-of x) a in
-    lcms-pos sizes (gathered-all (size-of x) NoZero (λ k. 0 < k) (λ t s h. sizes-positive x t s) a n)
+common-factor-pos x a = lcms-pos (gather (size-of x) a) (gathered (size-of x) (λ k. 0 < k) (sizes-positive x) a)
 
 -- the size of the literal's factor, where it has one, divides D
 unfoldable pub SizeDivides : ℕ → ℕ → Test → Sum → Type 0
 SizeDivides D x t s = All (λ k. Divides k (pos D)) (size-of x t s)
 
-pub sizes-divide : (x : ℕ) (a : Rule) → Normal NoZero a → Normal (SizeDivides (common-factor x a) x) a
+pub sizes-divide : (x : ℕ) (R : Test → Sum → Type 0) (a : Rule) → Each R a
+    → Each (λ t s. SizeDivides (common-factor x a) x t s × R t s) a
 unfolding common-factor SizeDivides
-sizes-divide x a n =
+sizes-divide x R a h =
     let sizes : List ℕ = gather (size-of x) a in
-    all-gathered (size-of x) NoZero (λ k. Divides k (pos (lcms sizes))) a n (lcms-divided sizes)
+    each-gathered (size-of x) (λ k. Divides k (pos (lcms sizes))) R a h (lcms-divided sizes)
 
 -- what a literal must be to be multiplied
 abbrev pub Scalable : ℕ → ℕ → Test → Sum → Type 0
-Scalable D x t s = NoZero t s × SizeDivides D x t s
+Scalable D x t s = SizeDivides D x t s × NoZero t s
 
 pub all-scalable : (x : ℕ) (a : Rule) → Normal NoZero a → Normal (Scalable (common-factor x a) x) a
-all-scalable x a n = normal-both NoZero (SizeDivides (common-factor x a) x) a n (sizes-divide x a n)
+all-scalable x a n =
+    each-normal NoZero (Scalable (common-factor x a) x) a n (sizes-divide x NoZero a (normal-each NoZero a n))
 
 -- ---- the multiplier m is positive, and m times the factor is its sign times D
 
@@ -130,16 +130,16 @@ module _ (D x : ℕ) (z : ℤ) (ρ : Choice) (g : 1 ≤ x) where
   scaled-test is-zero s m v n p = absurd n
 
   abbrev Keeps : Test → Sum → Type 0
-  Keeps t s = Holds (scale-literal D x t s) called ↔ Passes t (value s was)
+  Keeps t s = Holds (scale-literal D x t s) called ↔ Holds (Literal t s) was
 
   literal-keeps : 0 < D → (t : Test) (s : Sum) → Scalable D x t s → Keeps t s
   unfolding scale-literal Holds
   literal-keeps h t s n =
       let m : ℕ = multiplier D x s in
-      let u : Multiplies D (factor x s) m = multiplies D x t s h (n .1) in
+      let u : Multiplies D (factor x s) m = multiplies D x t s h (n .0) in
       Iff·trans
       (at-equal (Passes (times m t)) (value-scaled s m u))
-      (scaled-test t s m (value s was) (n .0) (u .positive))
+      (scaled-test t s m (value s was) (n .1) (u .positive))
 
   body-keeps : 0 < D → (a : Rule) → Normal (Scalable D x) a
       → Holds (map-literals (scale-literal D x) a) called ↔ Holds a was
@@ -156,7 +156,7 @@ common-factor-keeps x a g n ρ = (divided, multiplied)
     Body y = Holds (map-literals (scale-literal D x) a) (with x y ρ)
 
     body : (z : ℤ) → Body (pos D *ℤ z) ↔ Holds a (with x z ρ)
-    body z = body-keeps D x z ρ g (common-factor-pos x a n) a (all-scalable x a n)
+    body z = body-keeps D x z ρ g (common-factor-pos x a) a (all-scalable x a n)
 
     divided : Holds (Some x (scaled D x a)) ρ → Holds (Some x a) ρ
     divided (y, (holds, is-multiple)) =

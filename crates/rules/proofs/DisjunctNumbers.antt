@@ -1,28 +1,27 @@
 -- In step 3 the numbers of all disjuncts pass no limit exactly when those at j = 1 and at j = P pass none.
 -- Assumes nothing.
 -- The operations on sums are linear, so at a j between 1 and P each number lies between those at 1 and at P.
-use mathlib.Core.Path.{_≡_, refl}
+use mathlib.Core.Path.{_≡_}
 use mathlib.Core.Logic.{_↔_, _⊎_, inl, inr, Iff·rfl, Iff·trans, Iff·symm}
 use mathlib.Core.Bool.{Bool, true, false, not, _||_}
 use mathlib.Core.List.{List, [], _∷_, _++_}
-use Prim.Native.Nat.{ℕ, suc, _+_, _≤_, _<_}
+use Prim.Native.Nat.{ℕ, suc, _+_, _≤_}
 use native.Mathlib.Omega.{arith}
 use lib.Dec.{T, T-not, leb→le, le→leb}
 use lib.IntN.{ℤ, pos, negsuc, natAbs, _+ℤ_, _*ℤ_}
 use lib.Signed.{_≤ℤ_, ≤ℤ-refl}
 use Rattle.whole.specs.Integers.{within}
-use Rattle.whole.proofs.Tests.{T-and, T-or}
+use Rattle.whole.proofs.Tests.{T-and, T-or, same-truth}
 use Rattle.whole.proofs.Lists.{Any, ⊎-iff, any-imp, any-append, any-map}
 use Rattle.whole.proofs.Linear.{U, D, le↓, le↑}
-use Rattle.whole.proofs.Order.{+ℤ-mono-l, *ℤ-mono, *ℤ-≤-neg}
+use Rattle.whole.proofs.Integers.{+ℤ-mono, *ℤ-mono, *ℤ-anti}
 use Rattle.whole.proofs.Cooper.{UpTo}
 use Rattle.rules.specs.Sum.{Sum, factor, add, scale, put, number, limit, all-within}
 use Rattle.rules.specs.Rule.{Test, Rule, Constant, Join, Not, Literal, Bind}
 use Rattle.rules.specs.Literals.{some-literal, map-literals}
-use Rattle.rules.specs.Steps.{bounds, far-left, sum-at, body-at, for-each, disjuncts, any-of, disjunction}
+use Rattle.rules.specs.Steps.{bounds, far-left, sum-at, body-at, for-each, disjuncts, disjunction}
 use Rattle.rules.specs.Eliminate.{divisor-over, over-limit}
-use Rattle.rules.proofs.Shapes.{fars, nears}
-use Rattle.rules.proofs.Disjunction.{any-for-each, up-to}
+use Rattle.rules.proofs.Disjuncts.{fars, nears, any-for-each, from-one, any-of-some}
 
 -- ---- what is looked at
 
@@ -51,21 +50,17 @@ between-itself : (z : ℤ) → Between z z z
 between-itself z = inl (≤ℤ-refl z, ≤ℤ-refl z)
 
 between-plus : (c p z q : ℤ) → Between p z q → Between (c +ℤ p) (c +ℤ z) (c +ℤ q)
-between-plus c p z q (inl h) = inl (+ℤ-mono-l c p z .1 (h .0), +ℤ-mono-l c z q .1 (h .1))
-between-plus c p z q (inr h) = inr (+ℤ-mono-l c q z .1 (h .0), +ℤ-mono-l c z p .1 (h .1))
+between-plus c p z q (inl h) = inl (+ℤ-mono c p z (h .0), +ℤ-mono c z q (h .1))
+between-plus c p z q (inr h) = inr (+ℤ-mono c q z (h .0), +ℤ-mono c z p (h .1))
 
 -- a negative factor turns the order round
 between-times : (f p z q : ℤ) → Between p z q → Between (f *ℤ p) (f *ℤ z) (f *ℤ q)
 between-times (pos m) p z q (inl h) = inl (*ℤ-mono m p z (h .0), *ℤ-mono m z q (h .1))
 between-times (pos m) p z q (inr h) = inr (*ℤ-mono m q z (h .0), *ℤ-mono m z p (h .1))
-between-times (negsuc m) p z q (inl h) =
-    let g : 0 < suc m = omega arith in
-    inr (*ℤ-≤-neg g q z .1 (h .1), *ℤ-≤-neg g z p .1 (h .0))
-between-times (negsuc m) p z q (inr h) =
-    let g : 0 < suc m = omega arith in
-    inl (*ℤ-≤-neg g p z .1 (h .1), *ℤ-≤-neg g z q .1 (h .0))
+between-times (negsuc m) p z q (inl h) = inr (*ℤ-anti m z q (h .1), *ℤ-anti m p z (h .0))
+between-times (negsuc m) p z q (inr h) = inl (*ℤ-anti m z p (h .1), *ℤ-anti m q z (h .0))
 
-size-parts : (z : ℤ) → natAbs z ≡ U z + D z
+pub size-parts : (z : ℤ) → natAbs z ≡ U z + D z
 size-parts (pos n) = omega arith
 size-parts (negsuc n) = omega arith
 
@@ -164,26 +159,12 @@ module _ (x : ℕ) (s t r : Sum) (along : Along s t r) where
   body-at-ends (Literal test l) h = literal-at-ends test l h
   body-at-ends (Bind q v a) h = body-at-ends a h
 
--- ---- some of what is joined by or
-
-pub any-of-some : (p : Test → Sum → Bool) (ds : List Rule)
-    → T (some-literal p (any-of ds)) ↔ Any (λ d. T (some-literal p d)) ds
-unfolding any-of some-literal Any
-any-of-some p [] = Iff·rfl
-any-of-some p (a ∷ []) = (λ h. inl h, λ h. elim h [ inl k ↦ k | inr k ↦ absurd k ])
-any-of-some p (a ∷ b ∷ l) = Iff·trans (T-or (some-literal p a) (some-literal p (any-of (b ∷ l))))
-    (⊎-iff Iff·rfl (any-of-some p (b ∷ l)))
+-- ---- some bound, and some j
 
 some-bound-any : (p : Sum → Bool) (l : List Sum) → T (some-bound p l) ↔ Any (λ b. T (p b)) l
 unfolding some-bound Any
 some-bound-any p [] = Iff·rfl
 some-bound-any p (b ∷ l) = Iff·trans (T-or (p b) (some-bound p l)) (⊎-iff Iff·rfl (some-bound-any p l))
-
-same-truth : (a b : Bool) → T a ↔ T b → a ≡ b
-same-truth true true h = refl
-same-truth true false h = absurd (h .0 tt)
-same-truth false true h = absurd (h .1 tt)
-same-truth false false h = refl
 
 -- some j for some bound is, for some bound, some j
 some-j-swap : (P : ℕ) (Q : Sum → ℕ → Type 0) (l : List Sum)
@@ -231,7 +212,7 @@ module _ (P x : ℕ) (a : Rule) (g : 1 ≤ P) where
 
   any-far : Any Over (for-each 1 P (fars x a)) ↔ T (far-over x a 1 || far-over x a P)
   any-far = Iff·trans (any-for-each Over 1 P (fars x a))
-      (Iff·trans (up-to P (λ j. Any Over (fars x a j)) (λ j. T (far-over x a j)) one)
+      (Iff·trans (from-one P (λ j. Any Over (fars x a j)) (λ j. T (far-over x a j)) one)
       (some-j (far-over x a) far-at-ends))
     where
       one : (j : ℕ) → Any Over (fars x a j) ↔ T (far-over x a j)
@@ -240,7 +221,7 @@ module _ (P x : ℕ) (a : Rule) (g : 1 ≤ P) where
   any-full : Any Over (for-each 1 P (nears x a))
       ↔ T (some-bound (λ b. full-over x a b 1 || full-over x a b P) (bounds x a))
   any-full = Iff·trans (any-for-each Over 1 P (nears x a))
-      (Iff·trans (up-to P (λ j. Any Over (nears x a j)) (λ j. Any (λ b. T (full-over x a b j)) bs) each)
+      (Iff·trans (from-one P (λ j. Any Over (nears x a j)) (λ j. Any (λ b. T (full-over x a b j)) bs) each)
       (Iff·trans (some-j-swap P (λ b j. T (full-over x a b j)) bs)
       (Iff·trans (any-imp (λ b. ends b .0) bs, any-imp (λ b. ends b .1) bs)
       (Iff·symm (some-bound-any (λ b. full-over x a b 1 || full-over x a b P) bs)))))

@@ -16,7 +16,8 @@ use Rattle.rules.specs.Rule.{and, or, for-some, for-all, Test, positive,
 use Rattle.rules.specs.Rule.{Rule, Constant, Join, Not, Literal, Bind}
 use Rattle.rules.specs.Result.{given}
 use Rattle.rules.specs.Table.{Node, constant-node, join-node, not-node, literal-node, bind-node}
-use Rattle.rules.specs.Table.{most-words, body, width, count, nodes, bodies, starts, size, is-setting, is-divisor}
+use Rattle.rules.specs.Table.{most-words, body, width, count, nodes, bodies, starts, size}
+use Rattle.rules.specs.Table.{up-to, is-setting, is-divisor}
 use Rattle.rules.specs.Decode.{cut, checked, sum-of, divisor-and-sum, node, read, trees, decode}
 use Rattle.rules.specs.Laws.{Each, InTable, WellFormed, DecodeEncode}
 use Rattle.rules.proofs.Refusals.{then, passed}
@@ -24,17 +25,20 @@ use Rattle.rules.proofs.Sizes.{count-pos, length-nodes, length-starts}
 
 -- ---- what the fields of a node must be
 
+pub one-to : (m n : ℕ) → T (up-to m (pos n)) ↔ ((1 ≤ n) × (n ≤ m))
+unfolding up-to
+one-to m n = (
+  λ t. let (from, to) = T-and (leb 1 n) (leb n m) .0 t in (leb→le 1 n from, leb→le n m to),
+  λ h. T-and (leb 1 n) (leb n m) .1 (le→leb 1 n (h .0), le→leb n m (h .1)),
+)
+
 pub setting-range : (v : ℕ) → T (is-setting (pos v)) → (1 ≤ v) × (v < 7)
 unfolding is-setting
-setting-range v t =
-    let (from, to) = T-and (leb 1 v) (leb v 6) .0 t in
-    (leb→le 1 v from, omega (arith, leb→le v 6 to))
+setting-range v t = let (from, to) = one-to 6 v .0 t in (from, omega arith)
 
 pub divisor-range : (k : ℕ) → T (is-divisor (pos k)) → (0 < k) × (k ≤ limit)
 unfolding is-divisor
-divisor-range k t =
-    let (from, to) = T-and (leb 1 k) (leb k limit) .0 t in
-    (leb→le 1 k from, leb→le k limit to)
+divisor-range k = one-to limit k .0
 
 unfoldable pub Good : Node → Type 0
 Good (constant-node b) = Unit {0}
@@ -119,7 +123,8 @@ read-back i p (d ∷ ds) g =
 
 -- ---- the tree
 
-pub trees-nodes : (r : Rule) (ds : List Node) (f : List Rule) → trees ds ≡ given f → trees (nodes r ++ ds) ≡ given (r ∷ f)
+pub trees-nodes : (r : Rule) (ds : List Node) (f : List Rule) → trees ds ≡ given f
+    → trees (nodes r ++ ds) ≡ given (r ∷ f)
 unfolding trees nodes
 trees-nodes (Constant b) ds f e = then _ e
 trees-nodes (Join j a b) ds f e =

@@ -20,16 +20,7 @@ use Rattle.rules.specs.Laws.{QuantifierFree, FoldKeeps}
 use Rattle.rules.proofs.Sums.{value-no-factors}
 use Rattle.rules.proofs.Meaning.{joined-iff, whether-iff, ranges-iff, at-equal, passes-decides}
 
--- ---- the meaning
-
--- divisor 1 asks nothing of a value
-any-value : (t : Test) (y z : ℤ) → T (divisor-one t) → Passes t y ↔ Passes t z
-any-value positive y z h = absurd h
-any-value (divisible b k) y z h = whether-iff b (λ d. one z, λ d. one y)
-  where
-    one : (w : ℤ) → Divides k w
-    one w = subst (λ (m : ℕ). Divides m w) (sym (eqb→eq k 1 h)) (one-divides w)
-any-value is-zero y z h = absurd h
+-- ---- what folding leaves
 
 -- a literal is settled and becomes a truth value, or it stays
 abbrev pub settles : Test → Sum → Bool
@@ -40,6 +31,85 @@ pub fold-literal-ind : (Q : Rule → Type 0) (t : Test) (s : Sum)
     → Q (fold-literal t s)
 unfolding fold-literal
 fold-literal-ind Q t s = cond-ind (settles t s) (Constant (passes t (factor 0 s))) (Literal t s) Q
+
+-- no bare truth value
+abbrev pub Open : Rule → Type 0
+Open (Constant b) = ⊥
+Open (Join j a b) = Unit {0}
+Open (Not a) = Unit {0}
+Open (Literal t s) = Unit {0}
+Open (Bind q v a) = Unit {0}
+
+open-stays : (j : Junction) (a : Rule) → Open a → side j a ≡ stays
+unfolding side
+open-stays j (Constant b) h = absurd h
+open-stays j (Join k a b) h = refl
+open-stays j (Not a) h = refl
+open-stays j (Literal t s) h = refl
+open-stays j (Bind q v a) h = refl
+
+Stays : Side → Type 0
+Stays decides = ⊥
+Stays drops = ⊥
+Stays stays = Unit {0}
+
+stays-open : (j : Junction) (a : Rule) → Stays (side j a) → Open a
+unfolding side Stays
+stays-open and (Constant true) h = h
+stays-open and (Constant false) h = h
+stays-open or (Constant true) h = h
+stays-open or (Constant false) h = h
+stays-open j (Join k a b) h = tt
+stays-open j (Not a) h = tt
+stays-open j (Literal t s) h = tt
+stays-open j (Bind q v a) h = tt
+
+-- of an and or an or a side is left, or both are open and stay
+pub fold-join-ind : (Q : Rule → Type 0) (j : Junction) (a b : Rule) → Q a → Q b → (Open a → Open b → Q (Join j a b))
+    → Q (fold-join j a b)
+unfolding fold-join
+fold-join-ind Q j a b left right joined = by-sides (side j a) (side j b) (stays-open j a) (stays-open j b)
+  where
+    by-sides : (v w : Side) → (Stays v → Open a) → (Stays w → Open b) → Q (fold-sides v w j a b)
+    by-sides decides w f g = unfold fold-sides in left
+    by-sides drops w f g = unfold fold-sides in right
+    by-sides stays decides f g = unfold fold-sides in right
+    by-sides stays drops f g = unfold fold-sides in left
+    by-sides stays stays f g = unfold fold-sides Stays in joined (f tt) (g tt)
+
+-- of a not a truth value is left, or what is under it is open and it stays
+pub fold-not-ind : (Q : Rule → Type 0) (a : Rule) → ((b : Bool) → Q (Constant b)) → (Open a → Q (Not a))
+    → Q (fold-not a)
+unfolding fold-not
+fold-not-ind Q (Constant b) constant kept = constant (not b)
+fold-not-ind Q (Join j a b) constant kept = kept tt
+fold-not-ind Q (Not a) constant kept = kept tt
+fold-not-ind Q (Literal t s) constant kept = kept tt
+fold-not-ind Q (Bind q v a) constant kept = kept tt
+
+-- open sides and an open child stay where they are
+pub join-open : (j : Junction) (a b : Rule) → Open a → Open b → fold-join j a b ≡ Join j a b
+unfolding fold-join fold-sides
+join-open j a b h k = ap₂ (λ v w. fold-sides v w j a b) (open-stays j a h) (open-stays j b k)
+
+pub not-open : (a : Rule) → Open a → fold-not a ≡ Not a
+unfolding fold-not
+not-open (Constant b) h = absurd h
+not-open (Join j a b) h = refl
+not-open (Not a) h = refl
+not-open (Literal t s) h = refl
+not-open (Bind q v a) h = refl
+
+-- ---- the meaning
+
+-- divisor 1 asks nothing of a value
+any-value : (t : Test) (y z : ℤ) → T (divisor-one t) → Passes t y ↔ Passes t z
+any-value positive y z h = absurd h
+any-value (divisible b k) y z h = whether-iff b (λ d. one z, λ d. one y)
+  where
+    one : (w : ℤ) → Divides k w
+    one w = subst (λ (m : ℕ). Divides m w) (sym (eqb→eq k 1 h)) (one-divides w)
+any-value is-zero y z h = absurd h
 
 literal-keeps : (t : Test) (s : Sum) (ρ : Choice) → Holds (fold-literal t s) ρ ↔ Passes t (value s ρ)
 unfolding Holds
@@ -133,30 +203,15 @@ pub record ByParts (Q : Rule → Type 0) : Type 0 where
   pub under-bind : (q : Quantifier) (v : ℕ) (a b : Rule) → (Q a → Q b) → Q (Bind q v a) → Q (Bind q v b)
 
 module _ (Q : Rule → Type 0) (by : ByParts Q) where
-  keep-sides : (v w : Side) (j : Junction) (a b : Rule) → Q a → Q b → Q (fold-sides v w j a b)
-  unfolding fold-sides
-  keep-sides decides w j a b p q = p
-  keep-sides drops w j a b p q = q
-  keep-sides stays decides j a b p q = q
-  keep-sides stays drops j a b p q = p
-  keep-sides stays stays j a b p q = by .join j a b p q
-
-  keep-not : (a : Rule) → Q (Not a) → Q (fold-not a)
-  unfolding fold-not
-  keep-not (Constant b) h = by .constant (not b)
-  keep-not (Join j a b) h = h
-  keep-not (Not a) h = h
-  keep-not (Literal t s) h = h
-  keep-not (Bind q v a) h = h
-
   pub keep-fold : (a : Rule) → Q a → Q (fold a)
-  unfolding fold fold-join
+  unfolding fold
   keep-fold (Constant b) h = h
   keep-fold (Join j a b) h =
       let left : Q (fold a) = keep-fold a (by .left j a b h) in
       let right : Q (fold b) = keep-fold b (by .right j a b h) in
-      keep-sides (side j (fold a)) (side j (fold b)) j (fold a) (fold b) left right
-  keep-fold (Not a) h = keep-not (fold a) (by .under-not a (fold a) (keep-fold a) h)
+      fold-join-ind Q j (fold a) (fold b) left right (λ o p. by .join j (fold a) (fold b) left right)
+  keep-fold (Not a) h =
+      fold-not-ind Q (fold a) (by .constant) (λ o. by .under-not a (fold a) (keep-fold a) h)
   keep-fold (Literal t s) h = fold-literal-ind Q t s (λ c. by .constant (passes t (factor 0 s))) (λ c. h)
   keep-fold (Bind q v a) h = by .under-bind q v a (fold a) (keep-fold a) h
 
@@ -173,42 +228,19 @@ free-by-parts = record {
 
 -- ---- folding makes no quantifier
 
-fewer-sides : (v w : Side) (j : Junction) (a b : Rule)
-    → quantifiers (fold-sides v w j a b) ≤ quantifiers a + quantifiers b
-unfolding fold-sides quantifiers
-fewer-sides decides w j a b = omega arith
-fewer-sides drops w j a b = omega arith
-fewer-sides stays decides j a b = omega arith
-fewer-sides stays drops j a b = omega arith
-fewer-sides stays stays j a b = omega arith
-
-fewer-not : (a : Rule) → quantifiers (fold-not a) ≤ quantifiers a
-unfolding fold-not quantifiers
-fewer-not (Constant b) = omega arith
-fewer-not (Join j a b) = omega arith
-fewer-not (Not a) = omega arith
-fewer-not (Literal t s) = omega arith
-fewer-not (Bind q v a) = omega arith
-
 pub fewer-fold : (a : Rule) → quantifiers (fold a) ≤ quantifiers a
-unfolding fold fold-join quantifiers
+unfolding fold quantifiers
 fewer-fold (Constant b) = omega arith
 fewer-fold (Join j a b) =
-    let joined = fewer-sides (side j (fold a)) (side j (fold b)) j (fold a) (fold b) in
-    omega (arith, joined, fewer-fold a, fewer-fold b)
-fewer-fold (Not a) = omega (arith, fewer-not (fold a), fewer-fold a)
+    let left = fewer-fold a in
+    let right = fewer-fold b in
+    fold-join-ind (λ r. quantifiers r ≤ quantifiers a + quantifiers b) j (fold a) (fold b)
+    (omega arith) (omega arith) (λ o p. omega arith)
+fewer-fold (Not a) = fold-not-ind (λ r. quantifiers r ≤ quantifiers a) (fold a) (λ b. omega arith) (λ o. fewer-fold a)
 fewer-fold (Literal t s) = fold-literal-ind (λ r. quantifiers r ≤ 0) t s (λ c. omega arith) (λ c. omega arith)
 fewer-fold (Bind q v a) = omega (arith, fewer-fold a)
 
 -- ---- a folded rule
-
--- no bare truth value
-abbrev pub Open : Rule → Type 0
-Open (Constant b) = ⊥
-Open (Join j a b) = Unit {0}
-Open (Not a) = Unit {0}
-Open (Literal t s) = Unit {0}
-Open (Bind q v a) = Unit {0}
 
 unfoldable pub Folded : Rule → Type 0
 Folded (Constant b) = Unit {0}
@@ -217,68 +249,16 @@ Folded (Not a) = Open a × Folded a
 Folded (Literal t s) = T (not (settles t s))
 Folded (Bind q v a) = Folded a
 
-open-stays : (j : Junction) (a : Rule) → Open a → side j a ≡ stays
-unfolding side
-open-stays j (Constant b) h = absurd h
-open-stays j (Join k a b) h = refl
-open-stays j (Not a) h = refl
-open-stays j (Literal t s) h = refl
-open-stays j (Bind q v a) h = refl
-
-Stays : Side → Type 0
-Stays decides = ⊥
-Stays drops = ⊥
-Stays stays = Unit {0}
-
-stays-open : (j : Junction) (a : Rule) → Stays (side j a) → Open a
-unfolding side Stays
-stays-open and (Constant true) h = h
-stays-open and (Constant false) h = h
-stays-open or (Constant true) h = h
-stays-open or (Constant false) h = h
-stays-open j (Join k a b) h = tt
-stays-open j (Not a) h = tt
-stays-open j (Literal t s) h = tt
-stays-open j (Bind q v a) h = tt
-
-folded-sides : (v w : Side) (j : Junction) (a b : Rule) → (Stays v → Open a) → (Stays w → Open b)
-    → Folded a → Folded b → Folded (fold-sides v w j a b)
-unfolding fold-sides Folded Stays
-folded-sides decides w j a b f g h k = h
-folded-sides drops w j a b f g h k = k
-folded-sides stays decides j a b f g h k = k
-folded-sides stays drops j a b f g h k = h
-folded-sides stays stays j a b f g h k = (f tt, g tt, h, k)
-
-folded-not : (a : Rule) → Folded a → Folded (fold-not a)
-unfolding fold-not Folded
-folded-not (Constant b) h = tt
-folded-not (Join j a b) h = (tt, h)
-folded-not (Not a) h = (tt, h)
-folded-not (Literal t s) h = (tt, h)
-folded-not (Bind q v a) h = (tt, h)
-
 pub folded-fold : (a : Rule) → Folded (fold a)
-unfolding fold fold-join Folded
+unfolding fold Folded
 folded-fold (Constant b) = tt
-folded-fold (Join j a b) = folded-sides (side j (fold a)) (side j (fold b)) j (fold a) (fold b)
-    (stays-open j (fold a)) (stays-open j (fold b)) (folded-fold a) (folded-fold b)
-folded-fold (Not a) = folded-not (fold a) (folded-fold a)
+folded-fold (Join j a b) =
+    let left = folded-fold a in
+    let right = folded-fold b in
+    fold-join-ind Folded j (fold a) (fold b) left right (λ o p. (o, p, left, right))
+folded-fold (Not a) = fold-not-ind Folded (fold a) (λ b. tt) (λ o. (o, folded-fold a))
 folded-fold (Literal t s) = fold-literal-ind Folded t s (λ c. tt) (λ c. c)
 folded-fold (Bind q v a) = folded-fold a
-
--- open sides and an open child stay where they are
-pub join-open : (j : Junction) (a b : Rule) → Open a → Open b → fold-join j a b ≡ Join j a b
-unfolding fold-join fold-sides
-join-open j a b h k = ap₂ (λ v w. fold-sides v w j a b) (open-stays j a h) (open-stays j b k)
-
-pub not-open : (a : Rule) → Open a → fold-not a ≡ Not a
-unfolding fold-not
-not-open (Constant b) h = absurd h
-not-open (Join j a b) h = refl
-not-open (Not a) h = refl
-not-open (Literal t s) h = refl
-not-open (Bind q v a) h = refl
 
 pub fold-folded : (a : Rule) → Folded a → fold a ≡ a
 unfolding fold Folded

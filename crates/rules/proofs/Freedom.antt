@@ -15,13 +15,13 @@ use Rattle.rules.specs.Literals.{some-literal, map-literals}
 use Rattle.rules.specs.Steps.{normal-literal, normal}
 use Rattle.rules.specs.Steps.{multiplier, sign, scale-literal, scaled, sum-at, disjunction}
 use Rattle.rules.specs.Answer.{occurs}
-use Rattle.rules.specs.Laws.{QuantifierFree, Normal, NoZero, free}
+use Rattle.rules.specs.Laws.{QuantifierFree, Each, Normal, NoZero, free}
 use Rattle.rules.proofs.Sums.{factor-put, factor-put-other, factor-scale, factor-add, number-factor}
 use Rattle.rules.proofs.Folding.{ByParts}
 use Rattle.rules.proofs.Meaning.{join-free, not-free, bind-free}
 use Rattle.rules.proofs.NormalForm.{x-not-negative-ind}
-use Rattle.rules.proofs.OverLiterals.{map-normal}
-use Rattle.rules.proofs.Shapes.{Substitutes, disjunction-normal}
+use Rattle.rules.proofs.OverLiterals.{map-each}
+use Rattle.rules.proofs.Shapes.{Substitutes, disjunction-each}
 
 -- ---- sums without v
 
@@ -68,30 +68,30 @@ not-free-by-parts v = record {
   under-bind = λ q w a b f h. elim h [ inl e ↦ inl e | inr k ↦ inr (f k) ];
 }
 
--- of a normal rule: v is off in every literal
-pub normal-not-free : (v : ℕ) (a : Rule) → Normal (λ t s. Off v s) a → NotFree v a
-unfolding Normal NotFree
-normal-not-free v (Constant b) h = tt
-normal-not-free v (Join j a b) h = (normal-not-free v a (h .0), normal-not-free v b (h .1))
-normal-not-free v (Not a) h = absurd h
-normal-not-free v (Literal t s) h = h
-normal-not-free v (Bind q w a) h = absurd h
+-- v is off in every literal
+each-not-free : (v : ℕ) (a : Rule) → Each (λ t s. Off v s) a → NotFree v a
+unfolding Each NotFree
+each-not-free v (Constant b) h = tt
+each-not-free v (Join j a b) h = (each-not-free v a (h .0), each-not-free v b (h .1))
+each-not-free v (Not a) h = each-not-free v a h
+each-not-free v (Literal t s) h = h
+each-not-free v (Bind q w a) h = inr (each-not-free v a (h .1))
 
 -- under for some x: v is x, or off in every literal
 abbrev OffUnder : ℕ → ℕ → Test → Sum → Type 0
 OffUnder v x t s = (v ≡ x) ⊎ Off v s
 
-not-free-normal : (v x : ℕ) (Q : Test → Sum → Type 0) (a : Rule) → Normal Q a → (v ≡ x) ⊎ NotFree v a
-    → Normal (OffUnder v x) a
-unfolding Normal NotFree
-not-free-normal v x Q (Constant b) n h = tt
-not-free-normal v x Q (Join j a b) n h = (
-  not-free-normal v x Q a (n .0) (elim h [ inl e ↦ inl e | inr k ↦ inr (k .0) ]),
-  not-free-normal v x Q b (n .1) (elim h [ inl e ↦ inl e | inr k ↦ inr (k .1) ]),
+not-free-each : (v x : ℕ) (Q : Test → Sum → Type 0) (a : Rule) → Normal Q a → (v ≡ x) ⊎ NotFree v a
+    → Each (OffUnder v x) a
+unfolding Normal NotFree Each
+not-free-each v x Q (Constant b) n h = tt
+not-free-each v x Q (Join j a b) n h = (
+  not-free-each v x Q a (n .0) (elim h [ inl e ↦ inl e | inr k ↦ inr (k .0) ]),
+  not-free-each v x Q b (n .1) (elim h [ inl e ↦ inl e | inr k ↦ inr (k .1) ]),
 )
-not-free-normal v x Q (Not a) n h = n
-not-free-normal v x Q (Literal t s) n h = h
-not-free-normal v x Q (Bind q w a) n h = n
+not-free-each v x Q (Not a) n h = absurd n
+not-free-each v x Q (Literal t s) n h = h
+not-free-each v x Q (Bind q w a) n h = absurd n
 
 -- ---- step 1
 
@@ -125,19 +125,19 @@ module _ (v : ℕ) (g : 1 ≤ v) where
   scaled-frees : (D x : ℕ) (a : Rule) → ¬ (v ≡ x) → Normal NoZero a → NotFree v a → NotFree v (scaled D x a)
   unfolding scaled NotFree setting
   scaled-frees D x a n z h = (
-    normal-not-free v (map-literals (scale-literal D x) a) literals,
+    each-not-free v (map-literals (scale-literal D x) a) literals,
     off-put v x (pos 1) (number (pos 0)) n (number-factor v (pos 0) g),
   )
     where
-      each : (t : Test) (s : Sum) → OffUnder v x t s → Normal (λ t s. Off v s) (scale-literal D x t s)
+      each : (t : Test) (s : Sum) → OffUnder v x t s → Each (λ t s. Off v s) (scale-literal D x t s)
       each t s (inl e) = absurd (n e)
-      each t s (inr e) = unfold scale-literal Normal in
+      each t s (inr e) = unfold scale-literal Each in
           let m : ℤ = pos (multiplier D x s) in
           off-put v x (sign (factor x s)) (scale m s) n (off-scale v m s e)
 
-      literals : Normal (λ t s. Off v s) (map-literals (scale-literal D x) a)
-      literals = map-normal (scale-literal D x) (OffUnder v x) (λ t s. Off v s) each a
-          (not-free-normal v x NoZero a z (inr h))
+      literals : Each (λ t s. Off v s) (map-literals (scale-literal D x) a)
+      literals = map-each (scale-literal D x) (OffUnder v x) (λ t s. Off v s) each a
+          (not-free-each v x NoZero a z (inr h))
 
   pub some-scaled-frees : (D x : ℕ) (a : Rule) → Normal NoZero a
       → NotFree v (Some x a) → NotFree v (Some x (scaled D x a))
@@ -162,10 +162,8 @@ module _ (v : ℕ) (g : 1 ≤ v) where
   pub disjunction-frees : (Q : Test → Sum → Type 0) (P x : ℕ) (a : Rule) → Normal Q a
       → NotFree v (Some x a) → NotFree v (disjunction P x a)
   unfolding NotFree
-  disjunction-frees Q P x a n h =
-      let off : Normal (OffUnder v x) a = not-free-normal v x Q a n h in
-      normal-not-free v (disjunction P x a)
-      (disjunction-normal x (OffUnder v x) (Off v) (λ t s. Off v s) (off-substitutes x) P a off)
+  disjunction-frees Q P x a n h = each-not-free v (disjunction P x a)
+      (disjunction-each x (OffUnder v x) (Off v) (λ t s. Off v s) (off-substitutes x) P a (not-free-each v x Q a n h))
 
 -- ---- against the definition of free and of occurs
 

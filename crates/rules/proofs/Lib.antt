@@ -7,11 +7,17 @@ pub mod Choosing
 pub mod NormalForm
 pub mod OverLiterals
 pub mod CommonFactor
+pub mod Bounds
+pub mod Disjuncts
+pub mod CooperConditions
 pub mod Disjunction
 pub mod DisjunctNumbers
 pub mod Shapes
+pub mod Limits
 pub mod Freedom
+pub mod Serving
 pub mod Soundness
+pub mod Rounds
 pub mod Verdicts
 pub mod Sizes
 pub mod Encoding
@@ -19,6 +25,5 @@ pub mod Decoding
 pub mod Bytes
 pub mod Outcomes
 pub mod Trees
-pub mod StepShapes
+pub mod FactorOne
 pub mod Weights
-pub mod Disjuncts

@@ -9,68 +9,38 @@ use lib.IntN.{ℤ, pos, negsuc}
 use lib.ListN.{length, getD}
 use Rattle.whole.specs.Integers.{eqZ}
 use Rattle.rules.specs.Sum.{limit, all-within}
-use Rattle.rules.specs.Rule.{Junction, and, or, Quantifier, for-some, for-all, Test, positive, is-zero, Rule}
+use Rattle.rules.specs.Rule.{Junction, and, or, Quantifier, for-some, for-all, Test, positive, is-zero}
 use Rattle.rules.specs.Result.{Result, refused, given, _>>=_, require}
-use Rattle.rules.specs.Table.{
-  Node,
-  constant-node,
-  join-node,
-  not-node,
-  literal-node,
-  bind-node,
-  most-words,
-  width,
-  count,
-  is-setting,
-  is-divisor,
-}
-use Rattle.rules.specs.Decode.{
-  Field,
-  cut,
-  word,
-  checked,
-  sum-field,
-  nothing-more,
-  right-child,
-  sum-of,
-  divisor-and-sum,
-  setting-of,
-  kinds,
-  node,
-  read,
-  before,
-  trees,
-  only-tree,
-  decode,
-}
+use Rattle.rules.specs.Table.{Node, constant-node, not-node, most-words, width, is-setting, is-divisor}
+use Rattle.rules.specs.Decode.{Field, cut, word, checked, sum-field, nothing-more, right-child, sum-of}
+use Rattle.rules.specs.Decode.{divisor-and-sum, setting-of, kinds, node, read, trees, only-tree, decode}
 use Rattle.rules.specs.Chosen.{quantified}
 use Rattle.rules.specs.Match.{most-value, matching}
 use Rattle.rules.specs.Calls.{words, rule-of}
+use Rattle.rules.proofs.Refusals.{RefusedAs, then-as, test-as, as-imp}
+use Rattle.rules.proofs.Trees.{tree-four}
+
+abbrev pub OneTo : ℕ → ℕ → Type 0
+OneTo m n = (1 ≤ n) × (n ≤ m)
 
 -- if it refuses, then by 1 to m
 unfoldable pub By : {A : Type 0} → ℕ → Result A → Type 0
-By m (given a) = Unit {0}
-By m (refused n) = (1 ≤ n) × (n ≤ m)
+By m x = RefusedAs (OneTo m) x
 
-pub by-then : {A B : Type 0} (m : ℕ) (x : Result A) (f : A → Result B) → By m x → ((a : A) → By m (f a)) → By m (x >>= f)
-unfolding By _>>=_
-by-then m (given a) f h g = g a
-by-then m (refused n) f h g = h
-
-by-require : (m : ℕ) (b : Bool) (n : ℕ) → 1 ≤ n → n ≤ m → By m (require b n)
-unfolding By require
-by-require m true n h l = tt
-by-require m false n h l = (h, l)
+pub by-then : {A B : Type 0} (m : ℕ) (x : Result A) (f : A → Result B) → By m x → ((a : A) → By m (f a))
+    → By m (x >>= f)
+unfolding By
+by-then m = then-as (OneTo m)
 
 -- a test, and what follows where it is passed
-by-test : {B : Type 0} (m : ℕ) (b : Bool) (n : ℕ) → 1 ≤ n → n ≤ m → (f : Unit {0} → Result B) → By m (f tt)
+pub by-test : {B : Type 0} (m : ℕ) (b : Bool) (n : ℕ) → 1 ≤ n → n ≤ m → (f : Unit {0} → Result B) → By m (f tt)
     → By m (require b n >>= f)
-by-test m b n h l f g = by-then m (require b n) f (by-require m b n h l) (λ u. g)
-
-by-more : {A : Type 0} (m n : ℕ) (x : Result A) → m ≤ n → By m x → By n x
 unfolding By
-by-more m n (given a) h b = tt
-by-more m n (refused k) h b = (b .0, omega (arith, b .1))
+by-test m b n h l f = test-as (OneTo m) b n f (h, l)
+
+pub by-more : {A : Type 0} (m n : ℕ) (x : Result A) → m ≤ n → By m x → By n x
+unfolding By
+by-more m n x h = as-imp (λ k i. (i .0, omega (arith, i .1))) x
 
 -- ---- fields
 
@@ -162,29 +132,9 @@ read-by i (e ∷ es) p ws =
     (λ d. by-then 4 (read (i + 1) es (p + width (d .0)) (d .1)) _ (read-by (i + 1) es (p + width (d .0)) (d .1))
     (λ ds. tt)))
 
-before-by : (d : Node) (f : List Rule) → By 4 (before d f)
-unfolding By before
-before-by (constant-node b) f = tt
-before-by (join-node j right) [] = (omega arith, omega arith)
-before-by (join-node j right) (a ∷ []) = (omega arith, omega arith)
-before-by (join-node j right) (a ∷ b ∷ f) =
-    by-test 4 (eqZ right (pos (1 + count a))) 4 (omega arith) (omega arith) _ tt
-before-by not-node [] = (omega arith, omega arith)
-before-by not-node (a ∷ f) = tt
-before-by (literal-node t s) f = tt
-before-by (bind-node q v) [] = (omega arith, omega arith)
-before-by (bind-node q v) (a ∷ f) = tt
-
-trees-by : (ds : List Node) → By 4 (trees ds)
-unfolding By trees
-trees-by [] = tt
-trees-by (d ∷ ds) = by-then 4 (trees ds) (before d) (trees-by ds) (before-by d)
-
-only-tree-by : (f : List Rule) → By 4 (only-tree f)
-unfolding By only-tree
-only-tree-by [] = (omega arith, omega arith)
-only-tree-by (r ∷ []) = tt
-only-tree-by (r ∷ a ∷ f) = (omega arith, omega arith)
+tree-by : (ds : List Node) → By 4 (trees ds >>= only-tree)
+unfolding By
+tree-by ds = as-imp (λ n e. (omega arith, omega arith)) (trees ds >>= only-tree) (tree-four ds)
 
 decode-by : (ws : List ℤ) → By 4 (decode ws)
 unfolding By decode
@@ -194,7 +144,7 @@ decode-by (pos n ∷ ws) =
     by-test 4 (leb (suc (length ws)) most-words && leb 1 n) 1 (omega arith) (omega arith) _
     (by-then 4 (cut 1 n ws) _ (cut-fair 1 (omega arith) (omega arith) n ws)
     (λ p. by-then 4 (read 0 (p .0) (n + 1) (p .1)) _ (read-by 0 (p .0) (n + 1) (p .1))
-    (λ ds. by-then 4 (trees ds) only-tree (trees-by ds) only-tree-by)))
+    tree-by))
 
 pub rule-of-by : (l : List ℕ) → By 4 (rule-of l)
 unfolding rule-of

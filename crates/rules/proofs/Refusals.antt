@@ -1,4 +1,5 @@
--- What a chain of results says: where nothing is refused it goes on, and where something is given every part was.
+-- What a chain of results says: where nothing is refused it goes on, where something is given every part was,
+-- and where something is refused a part was.
 -- Assumes nothing.
 use mathlib.Core.Path.{_≡_, refl, sym, ap, subst}
 use mathlib.Core.Bool.{Bool, true, false}
@@ -12,10 +13,19 @@ pub then : {A B : Type 0} {m : Result A} {a : A} (f : A → Result B) → m ≡ 
 unfolding _>>=_
 then f e = ap (λ r. r >>= f) e
 
+pub stopped : {A B : Type 0} {m : Result A} {n : ℕ} (f : A → Result B) → m ≡ refused n → (m >>= f) ≡ refused n
+unfolding _>>=_
+stopped f e = ap (λ r. r >>= f) e
+
 pub passed : (b : Bool) (n : ℕ) → T b → require b n ≡ given tt
 unfolding require
 passed true n t = refl
 passed false n t = absurd t
+
+pub failed : (b : Bool) (n : ℕ) → ¬ T b → require b n ≡ refused n
+unfolding require
+failed true n f = absurd (f tt)
+failed false n f = refl
 
 -- ---- backward
 
@@ -48,3 +58,28 @@ pub required : {B : Type 0} (c : Bool) (n : ℕ) (f : Unit {0} → Result B) {b 
 unfolding require _>>=_
 required true n f e = (tt, e)
 required false n f e = never e
+
+-- ---- by which number
+
+-- if it refuses, then by a number that is as Q says
+abbrev pub RefusedAs : {A : Type 0} → (ℕ → Type 0) → Result A → Type 0
+RefusedAs Q (given a) = Unit {0}
+RefusedAs Q (refused n) = Q n
+
+module _ (Q : ℕ → Type 0) where
+  pub then-as : {A B : Type 0} (x : Result A) (f : A → Result B) → RefusedAs Q x → ((a : A) → RefusedAs Q (f a))
+      → RefusedAs Q (x >>= f)
+  unfolding _>>=_
+  then-as (given a) f h g = g a
+  then-as (refused n) f h g = h
+
+  -- a test, and what follows where it is passed
+  pub test-as : {B : Type 0} (b : Bool) (n : ℕ) (f : Unit {0} → Result B) → Q n → RefusedAs Q (f tt)
+      → RefusedAs Q (require b n >>= f)
+  unfolding require _>>=_
+  test-as true n f h g = g
+  test-as false n f h g = h
+
+pub as-imp : {A : Type 0} {P Q : ℕ → Type 0} → ((n : ℕ) → P n → Q n) → (x : Result A) → RefusedAs P x → RefusedAs Q x
+as-imp f (given a) h = tt
+as-imp f (refused n) h = f n h

@@ -7,32 +7,28 @@ use Prim.Native.Nat.{ℕ, zero, suc, _+_, _≤_, _<_}
 use native.Mathlib.Omega.{arith}
 use lib.Dec.{T, leb, leb→le}
 use lib.IntN.{pos}
-use Rattle.rules.specs.Rule.{Quantifier, for-some, for-all, Rule, Not, Bind, Some, All}
+use Rattle.rules.specs.Rule.{Quantifier, for-some, for-all, Rule, Not, Some}
 use Rattle.rules.specs.Result.{Result, given, _>>=_}
 use Rattle.rules.specs.Table.{size, is-setting}
 use Rattle.rules.specs.Fold.{fold, fold-not}
 use Rattle.rules.specs.Chosen.{Chosen, the, quantifiers, quantified, chosen, replace}
 use Rattle.rules.specs.Literals.{some-literal}
 use Rattle.rules.specs.Steps.{by-some, normal, common-factor, scaled, period, disjunction}
-use Rattle.rules.specs.Eliminate.{over-limit, step-table, on-chosen, for-all-step, normal-step}
-use Rattle.rules.specs.Eliminate.{most-period, common-step, disjunction-step, round, rounds, eliminate}
+use Rattle.rules.specs.Eliminate.{over-limit, step-table, on-chosen, for-all-step, normal-step, most-period}
+use Rattle.rules.specs.Eliminate.{common-step, disjunction-step, round, rounds, eliminate}
 use Rattle.rules.specs.Answer.{occurs}
-use Rattle.rules.specs.Laws.{Same, QuantifierFree, DivisorOf, Each, WellFormed}
-use Rattle.rules.specs.Laws.{Normal, NoZero, UnitFactor, free, Sound}
+use Rattle.rules.specs.Laws.{Same, QuantifierFree, Each, WellFormed, Normal, NoZero, UnitFactor, free, Sound}
 use Rattle.rules.proofs.Refusals.{given-inj, parts, required}
-pub use Rattle.rules.proofs.Encoding.{setting-range}
-use Rattle.rules.proofs.Meaning.{bind-same, same-trans, none-quantified, some-quantified, for-all-keeps}
+use Rattle.rules.proofs.Meaning.{same-trans, none-quantified, some-quantified}
 use Rattle.rules.proofs.Folding.{Open, Folded, folded-fold, fold-keeps, keep-fold, free-by-parts, fewer-fold}
-use Rattle.rules.proofs.Choosing.{Put, put, put-body, put-keeps, put-parts, put-each}
-use Rattle.rules.proofs.Choosing.{put-count, put-next, put-fold, is-chosen, chosen-of-free}
-use Rattle.rules.proofs.NormalForm.{normal-keeps, normal-normal}
-use Rattle.rules.proofs.OverLiterals.{normal-imp, normal-each, normal-free, each-imp, each-normal}
-use Rattle.rules.proofs.CommonFactor.{common-factor-keeps}
-use Rattle.rules.proofs.Disjunction.{disjunction-keeps}
-use Rattle.rules.proofs.Shapes.{each-by-parts, normal-by-parts, Shape, formed-shape, fits-formed, normal-shape}
-use Rattle.rules.proofs.Shapes.{Scaled, scaled-normal, Seven, shape-substitutes, disjunction-normal}
-use Rattle.rules.proofs.Freedom.{NotFree, not-free-by-parts, some-normal-frees, some-scaled-frees}
-use Rattle.rules.proofs.Freedom.{disjunction-frees, not-free-by-test, occurs-not-free}
+use Rattle.rules.proofs.Choosing.{Put, put, put-body, put-parts, put-each, put-count, put-next, put-fold}
+use Rattle.rules.proofs.Choosing.{is-chosen, chosen-of-free, replace-keeps}
+use Rattle.rules.proofs.NormalForm.{normal-normal}
+use Rattle.rules.proofs.Shapes.{each-by-parts, normal-by-parts, Shape, formed-shape, scaled-unit}
+use Rattle.rules.proofs.Limits.{fits-formed}
+use Rattle.rules.proofs.Freedom.{NotFree, not-free-by-parts, not-free-by-test, occurs-not-free}
+use Rattle.rules.proofs.Serving.{Serves, Rebodies, by-some-serves, normal-rebodies, scaled-rebodies}
+use Rattle.rules.proofs.Serving.{disjunction-serves}
 
 -- ---- a step table
 
@@ -72,15 +68,19 @@ follows-trans {r₀ = r₀} {r = r} {f = f} s n = record {
   frees = λ v g h. n .frees v g (s .frees v g h);
 }
 
-follows-itself : {room : ℕ} {r₀ r : Rule} → Follows room r₀ r → Follows room r r
-follows-itself s = record {
-  folded = s .folded;
-  formed = s .formed;
-  fits = s .fits;
+-- no step yet
+pub follows-none : {room : ℕ} {r : Rule} → Folded r → WellFormed r → size r ≤ room → Follows room r r
+follows-none folded formed fits = record {
+  folded = folded;
+  formed = formed;
+  fits = fits;
   fewer = omega arith;
   means = λ ρ. Iff·rfl;
   frees = λ v g h. h;
 }
+
+pub follows-itself : {room : ℕ} {r₀ r : Rule} → Follows room r₀ r → Follows room r r
+follows-itself s = follows-none (s .folded) (s .formed) (s .fits)
 
 -- a step table follows from what it folds
 settled-follows : {room : ℕ} {t f : Rule} → WellFormed t → Settled room t f → Follows room t f
@@ -92,13 +92,6 @@ settled-follows {room = room} {t = t} w d = subst (Follows room t) (sym (d .is))
   means = fold-keeps t;
   frees = λ v g. keep-fold (NotFree v) (not-free-by-parts v) t;
 })
-
--- what may stand in the place of the chosen quantifier q x over a
-pub record Serves (q : Quantifier) (x : ℕ) (a new : Rule) : Type 0 where
-  pub shape : Each Shape new
-  pub means : Same new (Bind q x a)
-  pub frees : (v : ℕ) → 1 ≤ v → NotFree v (Bind q x a) → NotFree v new
-  pub few : quantifiers new ≤ 1
 
 module _ (room : ℕ) (r : Rule) {q : Quantifier} {x : ℕ} {a : Rule} (new f : Rule) (e : chosen r ≡ the q x a) where
   put-new : Put q x a new r (replace new r)
@@ -113,7 +106,7 @@ module _ (room : ℕ) (r : Rule) {q : Quantifier} {x : ℕ} {a : Rule} (new f : 
     formed = after .formed;
     fits = after .fits;
     fewer = omega (arith, count-after d, s .few);
-    means = same-trans f (replace new r) r (after .means) (put-keeps (s .means) put-new);
+    means = same-trans f (replace new r) r (after .means) (replace-keeps new r q x a e (s .means));
     frees = λ v g h. after .frees v g (put-parts (NotFree v) (not-free-by-parts v) (s .frees v g) put-new h);
   }
     where
@@ -144,13 +137,6 @@ state room r₀ r x a s e =
     let p : Put for-some x a a r (replace a r) = put a r e in
     let h : T (is-setting (pos x)) × Each Shape a = unfold Each in put-each Shape p (formed-shape r (s .formed)) in
     record { follows = s; at = e; body = put-body p; setting = h .0; shape = h .1 }
-
--- another body under for some x
-pub record Rebodies (x : ℕ) (a b : Rule) : Type 0 where
-  pub shape : Each Shape b
-  pub free : QuantifierFree b
-  pub means : Same (Some x b) (Some x a)
-  pub frees : (v : ℕ) → 1 ≤ v → NotFree v (Some x a) → NotFree v (Some x b)
 
 rebody : (room : ℕ) (r₀ r f : Rule) (x : ℕ) (a b : Rule) → State room r₀ r x a → Rebodies x a b
     → step-table room (replace (Some x b) r) ≡ given f → State room r₀ f x (fold b)
@@ -184,10 +170,6 @@ on-the : (r f : Rule) {q : Quantifier} {x : ℕ} {a : Rule} (step : Quantifier �
 unfolding on-chosen
 on-the r f step e h = subst (λ (k : Chosen). on-chosen r k step ≡ given f) e h
 
-by-some-serves : (x : ℕ) (a : Rule) → QuantifierFree a → Each Shape (All x a) → Serves for-all x a (by-some x a)
-unfolding Each quantifiers NotFree
-by-some-serves x a e h = record { shape = h; means = for-all-keeps x a e; frees = λ v g n. n; few = omega arith }
-
 for-all-state : (room : ℕ) (r f : Rule) (q : Quantifier) (x : ℕ) (a : Rule) → Follows room r r → chosen r ≡ the q x a
     → for-all-step room r ≡ given f → (c : Rule) × State room r f x c
 unfolding for-all-step
@@ -214,14 +196,6 @@ for-all-state room r f for-all x a s e h = (fold (Not a), state room r f x (fold
         next room r (by-some x a) f e (s .folded) d tt (omega arith)
         (chosen-of-free for-some x (fold-not (fold a)) free)
 
-pub normal-rebodies : (x : ℕ) (a : Rule) → QuantifierFree a → Each Shape a → Rebodies x a (normal true x a)
-normal-rebodies x a e h = record {
-  shape = normal-shape true x a h;
-  free = normal-free NoZero (normal true x a) (normal-normal true x a e);
-  means = bind-same for-some x (normal true x a) a (λ ρ. normal-keeps true x a e ρ);
-  frees = λ v g. some-normal-frees v g x a;
-}
-
 normal-state : (room : ℕ) (r₀ r f : Rule) (x : ℕ) (a : Rule) → State room r₀ r x a → normal-step room r ≡ given f
     → (b : Rule) × State room r₀ f x b × Normal NoZero b
 unfolding normal-step
@@ -234,24 +208,6 @@ normal-state room r₀ r f x a s h = (
     b : Rule
     b = normal true x a
 
-module _ (x : ℕ) (a : Rule) (t : T (is-setting (pos x))) (n : Normal NoZero a) (h : Each Shape a) where
-  abbrev scaled-body : Rule
-  scaled-body = scaled (common-factor x a) x a
-
-  all-scaled : Normal (Scaled x) scaled-body
-  all-scaled = scaled-normal x a (setting-range x t .1) n h
-
-  pub scaled-unit : Normal (UnitFactor x) scaled-body
-  scaled-unit = normal-imp (Scaled x) (UnitFactor x) (λ t s k. k .0) scaled-body all-scaled
-
-  pub scaled-rebodies : Rebodies x a scaled-body
-  scaled-rebodies = record {
-    shape = each-imp (Scaled x) Shape (λ t s k. k .1) scaled-body (normal-each (Scaled x) scaled-body all-scaled);
-    free = normal-free (Scaled x) scaled-body all-scaled;
-    means = common-factor-keeps x a (setting-range x t .0) n;
-    frees = λ v g. some-scaled-frees v g (common-factor x a) x a n;
-  }
-
 common-state : (room : ℕ) (r₀ r f : Rule) (x : ℕ) (a : Rule) → State room r₀ r x a → Normal NoZero a
     → common-step room r ≡ given f → (b : Rule) × State room r₀ f x b × Normal (UnitFactor x) b
 unfolding common-step
@@ -260,30 +216,8 @@ common-state room r₀ r f x a s n h =
     let (D-allowed, step) = required (leb (common-factor x a) most-period) 7 _ (on-the r f _ (s .at) h) in (
       fold b,
       rebody room r₀ r f x a b s (scaled-rebodies x a (s .setting) n (s .shape)) step,
-      keep-fold (Normal (UnitFactor x)) (normal-by-parts (UnitFactor x)) b (scaled-unit x a (s .setting) n (s .shape)),
+      keep-fold (Normal (UnitFactor x)) (normal-by-parts (UnitFactor x)) b (scaled-unit (common-factor x a) x a n),
     )
-
-pub disjunction-serves : (x : ℕ) (a : Rule) → T (is-setting (pos x)) → Normal (UnitFactor x) a → Each Shape a
-    → Serves for-some x a (disjunction (period a) x a) × QuantifierFree (disjunction (period a) x a)
-disjunction-serves x a t u h = (
-  record {
-    shape = normal-each Shape new m;
-    means = disjunction-keeps x a (range .0) u (each-imp Shape (λ t s. DivisorOf (λ k. 0 < k) t) (λ t s k. k .1) a h);
-    frees = λ v i. disjunction-frees v i (UnitFactor x) (period a) x a u;
-    few = omega (arith, normal-free Shape new m);
-  },
-  normal-free Shape new m,
-)
-  where
-    range : (1 ≤ x) × (x < 7)
-    range = setting-range x t
-
-    new : Rule
-    new = disjunction (period a) x a
-
-    m : Normal Shape new
-    m = disjunction-normal x Shape Seven Shape (shape-substitutes x (range .1)) (period a) a
-        (each-normal (UnitFactor x) Shape a u h)
 
 disjunction-state : (room : ℕ) (r₀ r f : Rule) (x : ℕ) (a : Rule) → State room r₀ r x a → Normal (UnitFactor x) a
     → disjunction-step room r ≡ given f → Follows room r₀ f × (suc (quantifiers f) ≤ quantifiers r₀)
@@ -305,7 +239,7 @@ disjunction-state room r₀ r f x a s u h =
 
 -- ---- rounds
 
-round-follows : (room : ℕ) (r f : Rule) → Follows room r r → 0 < quantifiers r → round room r ≡ given f
+pub round-follows : (room : ℕ) (r f : Rule) → Follows room r r → 0 < quantifiers r → round room r ≡ given f
     → Follows room r f × (suc (quantifiers f) ≤ quantifiers r)
 unfolding round
 round-follows room r f s some e =

@@ -16,12 +16,12 @@ use Rattle.rules.specs.Sum.{Sum, Choice, with, factor, all-zero, no-fact
 use Rattle.rules.specs.Rule.{for-some, for-all}
 use Rattle.rules.specs.Rule.{Rule, Constant, Join, Not, Literal, Bind, True, False, And, Some, Holds}
 use Rattle.rules.specs.Result.{given}
-use Rattle.rules.specs.Table.{size, is-setting}
+use Rattle.rules.specs.Table.{size, is-setting, all-settings}
 use Rattle.rules.specs.Fold.{divisor-one}
 use Rattle.rules.specs.Chosen.{quantifiers}
 use Rattle.rules.specs.Steps.{normal, common-factor, scaled, period, disjunction}
 use Rattle.rules.specs.Eliminate.{eliminate}
-use Rattle.rules.specs.LeaveOff.{all-settings, others, some-of-each, question, leave-off}
+use Rattle.rules.specs.LeaveOff.{others, some-of-each, question, leave-off}
 use Rattle.rules.specs.Laws.{Same, QuantifierFree, Each, WellFormed, Normal, NoZero}
 use Rattle.rules.specs.Laws.{Verdict, ClosedRight, Decided, Matters, MayGo, LeaveOffRight}
 use Rattle.rules.proofs.Refusals.{required}
@@ -29,10 +29,10 @@ use Rattle.rules.proofs.Meaning.{joined-iff, bind-same, same-trans, joi
 use Rattle.rules.proofs.Meaning.{bind-free, dec-iff, decided, for-all-keeps}
 use Rattle.rules.proofs.Folding.{settles, Open, Folded}
 use Rattle.rules.proofs.NormalForm.{normal-normal}
-use Rattle.rules.proofs.Shapes.{Shape, formed-shape}
+use Rattle.rules.proofs.Shapes.{Shape, formed-shape, scaled-unit}
 use Rattle.rules.proofs.Freedom.{Off, NotFree, not-free-by-test}
-use Rattle.rules.proofs.Soundness.{Serves, Rebodies, normal-rebodies, scaled-unit}
-use Rattle.rules.proofs.Soundness.{scaled-rebodies, disjunction-serves, eliminate-follows}
+use Rattle.rules.proofs.Serving.{Serves, Rebodies, normal-rebodies, scaled-rebodies, disjunction-serves}
+use Rattle.rules.proofs.Soundness.{eliminate-follows}
 
 -- ---- an equal rule without quantifiers, by the steps without limits
 
@@ -67,7 +67,7 @@ quiet-some x a t e h = record {
     second = scaled-rebodies x b t n (first .shape)
 
     serves : Serves for-some x c (disjunction (period c) x c) × QuantifierFree (disjunction (period c) x c)
-    serves = disjunction-serves x c t (scaled-unit x b t n (first .shape)) (second .shape)
+    serves = disjunction-serves x c t (scaled-unit (common-factor x b) x b n) (second .shape)
 
 quiet : (a : Rule) → Each Shape a → Quiet a
 unfolding Each Holds quantifiers
@@ -258,10 +258,10 @@ may-go v a w n ρ x y = (alike x y, alike y x)
       | no f ↦ absurd (n ρ (some-each-in (others v all-settings) (sides v a) ρ ((x, h), (y, f))))
     ]
 
-pub natural : (v : ℤ) → T (is-setting v) → T (is-setting (pos (natAbs v)))
+pub natural-setting : (v : ℤ) → T (is-setting v) → T (is-setting (pos (natAbs v)))
 unfolding is-setting
-natural (pos v) t = t
-natural (negsuc v) t = absurd t
+natural-setting (pos v) t = t
+natural-setting (negsuc v) t = absurd t
 
 -- leave-off answers by eliminating its question, which is well formed
 pub asked : (room : ℕ) (v : ℤ) (a f : Rule) → WellFormed a → leave-off room v a ≡ given f
@@ -270,7 +270,7 @@ unfolding leave-off
 asked room v a f w e =
     let (t, after) = required (is-setting v) 8 _ e in
     let (fits, eliminated) = required (leb (size (question (natAbs v) a)) room) 6 _ after in
-    (question-formed (natAbs v) a (natural v t) w, eliminated)
+    (question-formed (natAbs v) a (natural-setting v t) w, eliminated)
 
 pub leave-off-right : LeaveOffRight
 leave-off-right room v a f w e =

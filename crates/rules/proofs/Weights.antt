@@ -2,55 +2,43 @@
 -- Assumes nothing.
 use mathlib.Core.Path.{_≡_, refl, _∙_}
 use mathlib.Core.Bool.{Bool, true, false, not}
+use mathlib.Core.List.{List, [], _∷_}
 use Prim.Native.Nat.{ℕ, _+_, _*_, _≤_, _<_}
 use native.Mathlib.Omega.{arith}
 use lib.IntN.{pos}
+use lib.ListN.{length}
+use Rattle.whole.proofs.Lists.{All}
 use Rattle.rules.specs.Sum.{Sum, factor, scale, negate, number, setting, one-plus, one-minus}
-use Rattle.rules.specs.Rule.{Junction, Test, positive, divisible, is-zero}
+use Rattle.rules.specs.Rule.{Junction, or, Test, positive, divisible, is-zero}
 use Rattle.rules.specs.Rule.{Rule, Constant, Join, Not, Literal, Bind}
-use Rattle.rules.specs.Fold.{fold-not, Side, decides, drops, stays, side, fold-sides, fold-join, fold}
+use Rattle.rules.specs.Fold.{fold-join, fold}
 use Rattle.rules.specs.Literals.{map-literals}
-use Rattle.rules.specs.Steps.{by-some, normal-literal, normal}
-use Rattle.rules.specs.Steps.{multiplier, times, sign, scale-literal, scaled}
+use Rattle.rules.specs.Steps.{by-some, normal-literal, normal, multiplier, times, sign, scale-literal, scaled}
 use Rattle.rules.specs.Steps.{far-literal, far-left, sum-at, body-at}
 use Rattle.rules.specs.Laws.{Each, WellFormed}
 use Rattle.rules.proofs.Sums.{length-scale}
-use Rattle.rules.proofs.Folding.{fold-literal-ind}
+use Rattle.rules.proofs.Folding.{fold-literal-ind, fold-join-ind, fold-not-ind}
 use Rattle.rules.proofs.NormalForm.{x-not-negative-ind}
 use Rattle.rules.proofs.OverLiterals.{each-imp}
 use Rattle.rules.proofs.Sizes.{before-sum, weight, weight-pos}
-use Rattle.rules.proofs.Shapes.{Shape, formed-shape, Seven, seven-negate, seven-add, seven-put}
-use Rattle.rules.proofs.Shapes.{far-literal-ind, shape-substitutes}
-use Rattle.rules.proofs.StepShapes.{far-each}
+use Rattle.rules.proofs.Shapes.{Seven, Shape, formed-shape, seven-negate, seven-add, seven-put}
+use Rattle.rules.proofs.Shapes.{shape-substitutes}
+use Rattle.rules.proofs.Disjuncts.{far-literal-ind, far-each, fold-any}
 
 -- ---- folding
 
--- a side, or the two joined
-sides-lighter : (v w : Side) (j : Junction) (a b : Rule) → weight (fold-sides v w j a b) ≤ 2 + weight a + weight b
-unfolding fold-sides weight
-sides-lighter decides w j a b = omega arith
-sides-lighter drops w j a b = omega arith
-sides-lighter stays decides j a b = omega arith
-sides-lighter stays drops j a b = omega arith
-sides-lighter stays stays j a b = omega arith
-
 pub join-lighter : (j : Junction) (a b : Rule) → weight (fold-join j a b) ≤ 2 + weight a + weight b
-unfolding fold-join
-join-lighter j a b = sides-lighter (side j a) (side j b) j a b
-
-not-lighter : (a : Rule) → weight (fold-not a) ≤ 1 + weight a
-unfolding fold-not weight
-not-lighter (Constant b) = omega arith
-not-lighter (Join j a b) = omega arith
-not-lighter (Not a) = omega arith
-not-lighter (Literal t s) = omega arith
-not-lighter (Bind q v a) = omega arith
+unfolding weight
+join-lighter j a b = fold-join-ind (λ r. weight r ≤ 2 + weight a + weight b) j a b
+    (omega arith) (omega arith) (λ o p. omega arith)
 
 pub fold-lighter : (r : Rule) → weight (fold r) ≤ weight r
 unfolding fold weight
 fold-lighter (Constant b) = omega arith
 fold-lighter (Join j a b) = omega (arith, join-lighter j (fold a) (fold b), fold-lighter a, fold-lighter b)
-fold-lighter (Not a) = omega (arith, not-lighter (fold a), fold-lighter a)
+fold-lighter (Not a) =
+    let under = fold-lighter a in
+    fold-not-ind (λ r. weight r ≤ 1 + weight a) (fold a) (λ b. omega arith) (λ o. omega arith)
 fold-lighter (Literal t s) =
     fold-literal-ind (λ r. weight r ≤ weight (Literal t s)) t s (λ c. weight-pos (Literal t s)) (λ c. omega arith)
 fold-lighter (Bind q v a) = omega (arith, fold-lighter a)
@@ -61,14 +49,6 @@ module _ (f : Test → Sum → Rule) where
   -- f makes no more words of a literal than it has
   abbrev pub Lighter : Test → Sum → Type 0
   Lighter t s = weight (f t s) ≤ weight (Literal t s)
-
-  pub map-lighter : ((t : Test) (s : Sum) → Lighter t s) → (a : Rule) → weight (map-literals f a) ≤ weight a
-  unfolding map-literals weight
-  map-lighter each (Constant b) = omega arith
-  map-lighter each (Join j a b) = omega (arith, map-lighter each a, map-lighter each b)
-  map-lighter each (Not a) = omega (arith, map-lighter each a)
-  map-lighter each (Literal t s) = each t s
-  map-lighter each (Bind q v a) = omega (arith, map-lighter each a)
 
   pub map-each-lighter : (a : Rule) → Each Lighter a → weight (map-literals f a) ≤ weight a
   unfolding Each map-literals weight
@@ -158,13 +138,25 @@ shaped-lighter x u a in-range seven h = map-each-lighter made a (each-imp Shape 
 pub body-lighter : (x : ℕ) (u : Sum) (a : Rule) → x < 7 → Seven u → WellFormed a → weight (body-at x u a) ≤ weight a
 body-lighter x u a in-range seven w = shaped-lighter x u a in-range seven (formed-shape a w)
 
-pub far-lighter : (x : ℕ) (a : Rule) → weight (far-left x a) ≤ weight a
-unfolding far-left
-far-lighter x = map-lighter (far-literal x) (λ t s. unfold weight in
-    far-literal-ind (λ r. weight r ≤ weight (Literal t s)) x t s (λ b. weight-pos (Literal t s)) (omega arith))
-
 pub far-body-lighter : (x : ℕ) (u : Sum) (a : Rule) → x < 7 → Seven u → WellFormed a
     → weight (body-at x u (far-left x a)) ≤ weight a
 far-body-lighter x u a in-range seven w =
-    let shaped : Each Shape (far-left x a) = far-each x Shape a (formed-shape a w) in
-    omega (arith, shaped-lighter x u (far-left x a) in-range seven shaped, far-lighter x a)
+    let shaped : Each Shape a = formed-shape a w in
+    let made = shaped-lighter x u (far-left x a) in-range seven (far-each x Shape a shaped) in
+    omega (arith, made, far-lighter a shaped)
+  where
+    literal : (t : Test) (s : Sum) → Shape t s → Lighter (far-literal x) t s
+    literal t s h = unfold weight in
+        far-literal-ind (λ r. weight r ≤ weight (Literal t s)) x t s (λ b. weight-pos (Literal t s)) (omega arith)
+
+    far-lighter : (b : Rule) → Each Shape b → weight (far-left x b) ≤ weight b
+    far-lighter b h = unfold far-left in
+        map-each-lighter (far-literal x) b (each-imp Shape (Lighter (far-literal x)) literal b h)
+
+-- ---- the disjuncts, folded
+
+pub any-lighter : (w : ℕ) (l : List Rule) → All (λ d. weight d ≤ w) l → weight (fold-any l) ≤ 1 + length l * (2 + w)
+unfolding fold-any weight All
+any-lighter w [] h = omega arith
+any-lighter w (d ∷ l) h =
+    omega (arith, join-lighter or (fold d) (fold-any l), fold-lighter d, h .0, any-lighter w l (h .1))

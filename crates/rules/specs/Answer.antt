@@ -7,9 +7,8 @@ use Prim.Native.Nat.{ℕ, _+_, _-_, _^_}
 use Rattle.rules.specs.Sum.{has}
 use Rattle.rules.specs.Rule.{Rule, Constant, Join, Not, Literal, Bind}
 use Rattle.rules.specs.Result.{Result, refused, given}
-use Rattle.rules.specs.Table.{size}
+use Rattle.rules.specs.Table.{size, all-settings}
 use Rattle.rules.specs.Literals.{some-literal}
-use Rattle.rules.specs.LeaveOff.{all-settings}
 
 pub record Answer : Type 0 where
   pub number : ℕ

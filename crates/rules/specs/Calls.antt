@@ -41,7 +41,9 @@ bytes-of (w ∷ ws) = bits w % 256 ∷ bits w / 256 % 256 ∷ bits w / 65536 % 2
 -- "byte length no multiple of 4" (1), then the table's own checks
 unfoldable pub rule-of : List ℕ → Result Rule
 unfolding words decode require _>>=_
-rule-of table = require (eqb (length table % 4) 0) 1 >>= λ u. decode (words table)
+rule-of table = do
+  _ ← require (eqb (length table % 4) 0) 1
+  decode (words table)
 
 -- ---- what a call that makes a table leaves
 

@@ -25,7 +25,7 @@ unfoldable pub cut : ℕ → ℕ → Field (List ℤ)
 unfolding _>>=_
 cut n zero ws = given ([], ws)
 cut n (suc m) [] = refused n
-cut n (suc m) (w ∷ ws) = cut n m ws >>= λ p. given (w ∷ p .0, p .1)
+cut n (suc m) (w ∷ ws) = cut n m ws >>= λ (vs, rest). given (w ∷ vs, rest)
 
 unfoldable pub word : Field ℤ
 word [] = refused 3
@@ -35,17 +35,17 @@ word (w ∷ ws) = given (w, ws)
 unfoldable pub checked : (ℤ → Bool) → Field ℕ
 unfolding word _>>=_ require
 checked test ws = do
-  p ← word ws
-  u ← require (test (p .0)) 3
-  given (natAbs (p .0), p .1)
+  (w, rest) ← word ws
+  _ ← require (test w) 3
+  given (natAbs w, rest)
 
 -- c, a1..a6
 unfoldable pub sum-field : Field Sum
 unfolding cut all-within _>>=_ require
 sum-field ws = do
-  p ← cut 3 7 ws
-  u ← require (all-within limit (p .0)) 3
-  given p
+  (s, rest) ← cut 3 7 ws
+  _ ← require (all-within limit s) 3
+  given (s, rest)
 
 -- ---- bodies: what follows the kind
 
@@ -54,19 +54,19 @@ nothing-more d ws = given (d, ws)
 
 unfoldable pub right-child : ℕ → Junction → Field Node
 unfolding word _>>=_
-right-child i j ws = word ws >>= λ p. given (join-node j (p .0 -ℤ pos i), p .1)
+right-child i j ws = word ws >>= λ (w, rest). given (join-node j (w -ℤ pos i), rest)
 
 unfoldable pub sum-of : Test → Field Node
 unfolding sum-field _>>=_
-sum-of t ws = sum-field ws >>= λ p. given (literal-node t (p .0), p .1)
+sum-of t ws = sum-field ws >>= λ (s, rest). given (literal-node t s, rest)
 
 unfoldable pub divisor-and-sum : Bool → Field Node
 unfolding checked is-divisor sum-of _>>=_
-divisor-and-sum b ws = checked is-divisor ws >>= λ p. sum-of (divisible b (p .0)) (p .1)
+divisor-and-sum b ws = checked is-divisor ws >>= λ (k, rest). sum-of (divisible b k) rest
 
 unfoldable pub setting-of : Quantifier → Field Node
 unfolding checked is-setting _>>=_
-setting-of q ws = checked is-setting ws >>= λ p. given (bind-node q (p .0), p .1)
+setting-of q ws = checked is-setting ws >>= λ (v, rest). given (bind-node q v, rest)
 
 -- the body of node i by its kind, 0 first
 unfoldable pub kinds : ℕ → List (Field Node)
@@ -101,10 +101,10 @@ unfolding _>>=_ require node width
 read i [] p [] = given []
 read i [] p (w ∷ ws) = refused 2
 read i (e ∷ es) p ws = do
-  u ← require (eqZ e (pos p)) 2
-  d ← node i ws
-  ds ← read (i + 1) es (p + width (d .0)) (d .1)
-  given (d .0 ∷ ds)
+  _ ← require (eqZ e (pos p)) 2
+  (d, rest) ← node i ws
+  ds ← read (i + 1) es (p + width d) rest
+  given (d ∷ ds)
 
 -- ---- the tree: "nodes do not form the preorder tree" (4)
 
@@ -115,7 +115,9 @@ unfolding _>>=_ require count
 before (constant-node b) f = given (Constant b ∷ f)
 before (join-node j right) [] = refused 4
 before (join-node j right) (a ∷ []) = refused 4
-before (join-node j right) (a ∷ b ∷ f) = require (eqZ right (pos (1 + count a))) 4 >>= λ u. given (Join j a b ∷ f)
+before (join-node j right) (a ∷ b ∷ f) = do
+  _ ← require (eqZ right (pos (1 + count a))) 4
+  given (Join j a b ∷ f)
 before not-node [] = refused 4
 before not-node (a ∷ f) = given (Not a ∷ f)
 before (literal-node t s) f = given (Literal t s ∷ f)
@@ -141,8 +143,8 @@ unfolding _>>=_ require cut read trees only-tree
 decode [] = refused 1
 decode (negsuc n ∷ ws) = refused 1
 decode (pos n ∷ ws) = do
-  u ← require (leb (suc (length ws)) most-words && leb 1 n) 1
-  p ← cut 1 n ws
-  ds ← read 0 (p .0) (n + 1) (p .1)
+  _ ← require (leb (suc (length ws)) most-words && leb 1 n) 1
+  (entries, bodies) ← cut 1 n ws
+  ds ← read 0 entries (n + 1) bodies
   f ← trees ds
   only-tree f

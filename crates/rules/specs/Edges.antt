@@ -8,23 +8,11 @@ use lib.ListN.{replicate}
 use Rattle.rules.specs.Rule.{Rule, True, False, Not, And, Or, Some, All}
 use Rattle.rules.specs.Table.{encode}
 use Rattle.rules.specs.Calls.{bytes-of}
-use Rattle.rules.specs.Rows.{
-  Call,
-  elimination,
-  leave-off-test,
-  matching-of,
-  answers,
-  refuses,
-  Row,
-  _gives_,
-  plenty,
-  all-right,
-  minus,
-  words,
-}
+use Rattle.rules.specs.Rows.{Call, elimination, leave-off-test, matching-of, answers, refuses, Row, _gives_}
+use Rattle.rules.specs.Rows.{plenty, all-right, minus, words}
 use Rattle.rules.specs.Rows.{x, y, z, num, _plus_, _less_, _times_, Positive, _divides_, _divides-not_, IsZero}
 use Rattle.rules.specs.Rows.{eliminating, leaving-off, some-x, reading, to-true, to-false, to}
-use Rattle.rules.specs.Examples.{doubled, even}
+use Rattle.rules.specs.Examples.{even, doubling}
 
 -- the word that is below every range, and a table that would be answered
 abbrev pub lowest : ℤ
@@ -199,10 +187,6 @@ factor-7 = Positive (4097 times x)
 
 abbrev pub scaled-5 : Rule
 scaled-5 = Positive (num 2147483647 plus x)
-
--- the first example with these lent lengths
-abbrev pub doubling : ℕ → ℕ → Call
-doubling out work = elimination (bytes-of doubled) out work
 
 pub limit-rows : List Row
 limit-rows =

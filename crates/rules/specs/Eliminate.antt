@@ -25,11 +25,11 @@ over-limit t s = not (all-within limit s) || divisor-over t
 -- "Per step table, numbers come first (5), then size after folding (6)." "each step table is folded throughout."
 unfoldable pub step-table : ℕ → Rule → Result Rule
 unfolding _>>=_ require some-literal over-limit fold size
-step-table room r =
-    require (not (some-literal over-limit r)) 5 >>= λ u.
-    let f = fold r in
-    require (leb (size f) room) 6 >>= λ w.
-    given f
+step-table room r = do
+  _ ← require (not (some-literal over-limit r)) 5
+  let f = fold r
+  _ ← require (leb (size f) room) 6
+  given f
 
 -- what a step makes of the chosen quantifier; a rule without one stays
 unfoldable pub on-chosen : Rule → Chosen → (Quantifier → ℕ → Rule → Result Rule) → Result Rule
@@ -39,14 +39,15 @@ on-chosen r (the q x a) step = step q x a
 -- "A for-all is first replaced by not, for some, not: a step table of its own."
 unfoldable pub for-all-step : ℕ → Rule → Result Rule
 unfolding on-chosen chosen replace step-table
-for-all-step room r = on-chosen r (chosen r) (λ q x a. elim q [
+for-all-step room r = on-chosen r (chosen r) λ q x a. elim q [
   | for-some ↦ given r
   | for-all ↦ step-table room (replace (by-some x a) r)
-])
+]
 
+-- "In that body push every not down to the literals"
 unfoldable pub normal-step : ℕ → Rule → Result Rule
 unfolding on-chosen chosen replace step-table normal
-normal-step room r = on-chosen r (chosen r) (λ q x a. step-table room (replace (Some x (normal true x a)) r))
+normal-step room r = on-chosen r (chosen r) λ q x a. step-table room (replace (Some x (normal true x a)) r)
 
 -- "D or P passes 4,096" (7)
 abbrev pub most-period : ℕ
@@ -55,16 +56,18 @@ most-period = 4096
 -- "D over 4,096 is refused (7) after step 1"
 unfoldable pub common-step : ℕ → Rule → Result Rule
 unfolding on-chosen chosen replace step-table common-factor scaled _>>=_ require
-common-step room r = on-chosen r (chosen r) (λ q x a.
-    let D = common-factor x a in
-    require (leb D most-period) 7 >>= λ u. step-table room (replace (Some x (scaled D x a)) r))
+common-step room r = on-chosen r (chosen r) λ q x a. do
+  let D = common-factor x a
+  _ ← require (leb D most-period) 7
+  step-table room (replace (Some x (scaled D x a)) r)
 
 -- "P over 4,096 (7) after step 2." "This replaces the quantifier and its body."
 unfoldable pub disjunction-step : ℕ → Rule → Result Rule
 unfolding on-chosen chosen replace step-table period disjunction _>>=_ require
-disjunction-step room r = on-chosen r (chosen r) (λ q x a.
-    let P = period a in
-    require (leb P most-period) 7 >>= λ u. step-table room (replace (disjunction P x a) r))
+disjunction-step room r = on-chosen r (chosen r) λ q x a. do
+  let P = period a
+  _ ← require (leb P most-period) 7
+  step-table room (replace (disjunction P x a) r)
 
 -- the chosen quantifier goes
 unfoldable pub round : ℕ → Rule → Result Rule

@@ -1,37 +1,14 @@
 -- The examples of the paper that are marked P, as one tabled statement: antt computes each call and compares.
 -- Assumes nothing.
 use mathlib.Core.List.{List, [], _∷_, _++_}
+use Prim.Native.Nat.{ℕ}
 use lib.Dec.{T}
 use lib.IntN.{ℤ}
 use Rattle.rules.specs.Rule.{Rule, Not, And, Or, Some, All}
 use Rattle.rules.specs.Calls.{bytes-of}
-use Rattle.rules.specs.Rows.{
-  elimination,
-  answers,
-  refuses,
-  Row,
-  _gives_,
-  meets,
-  plenty,
-  all-right,
-  minus,
-  words,
-  x,
-  num,
-  _less_,
-  _times_,
-}
-use Rattle.rules.specs.Rows.{
-  Positive,
-  _divides_,
-  _divides-not_,
-  eliminating,
-  leaving-off,
-  some-x,
-  reading,
-  to-true,
-  to-false,
-}
+use Rattle.rules.specs.Rows.{Call, elimination, answers, refuses, Row, _gives_, meets, plenty, all-right}
+use Rattle.rules.specs.Rows.{minus, words, x, num, _less_, _times_, Positive, _divides_, _divides-not_}
+use Rattle.rules.specs.Rows.{eliminating, leaving-off, some-x, reading, to-true, to-false}
 
 -- the first example: 2·s1 = s2 for some s1, and 2 divides s2
 abbrev pub doubled : List ℤ
@@ -39,6 +16,10 @@ doubled = words (2 ∷ 3 ∷ 5 ∷ 8 ∷ 1 ∷ 10 ∷ 0 ∷ 2 ∷ []) ++ minus 1
 
 abbrev pub even : List ℤ
 even = words (1 ∷ 2 ∷ 6 ∷ 2 ∷ 0 ∷ 0 ∷ 1 ∷ 0 ∷ 0 ∷ 0 ∷ 0 ∷ [])
+
+-- its elimination with these lent lengths
+abbrev pub doubling : ℕ → ℕ → Call
+doubling out work = elimination (bytes-of doubled) out work
 
 -- the second: 3x+1 < 10 is 0 < 9−3x, and 7x−6 > 7 is 0 < 7x−13
 abbrev pub second : Rule
@@ -48,9 +29,9 @@ pub examples : List Row
 examples =
     -- "for some s1, 2·s1 = s2. Table 2,3,5,8,1,10,0,2,−1,0,0,0,0 becomes 1,2,6,2,0,0,1,0,0,0,0: 2 divides s2.
     -- Room 38 answers"
-    elimination (bytes-of doubled) 152 152 gives answers 3 2 even ∷
+    doubling 152 152 gives answers 3 2 even ∷
     -- "37 gives 6."
-    elimination (bytes-of doubled) 148 148 gives refuses 6 ∷
+    doubling 148 148 gives refuses 6 ∷
     -- "(3x+1 < 10 or 7x−6 > 7) and 2 divides x: true."
     some-x second gives to-true ∷
     -- "D = 21, P = 42 (000)."

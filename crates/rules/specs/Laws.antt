@@ -40,6 +40,9 @@ DivisorOf Q positive = Unit {0}
 DivisorOf Q (divisible b k) = Q k
 DivisorOf Q is-zero = Unit {0}
 
+abbrev pub PositiveDivisor : Test → Sum → Type 0
+PositiveDivisor t s = DivisorOf (λ k. 0 < k) t
+
 -- every quantifier's setting is 1 to 6, and every literal is as Q says
 unfoldable pub Each : (Test → Sum → Type 0) → Rule → Type 0
 Each Q (Constant b) = Unit {0}
@@ -122,7 +125,7 @@ CooperTheorem = (P x : ℕ) (a : Rule) → 1 ≤ x → 0 < P → Normal (UnitFac
     → Same (disjunction P x a) (Some x a)
 
 abbrev pub DisjunctionKeeps : Type 0
-DisjunctionKeeps = (x : ℕ) (a : Rule) → 1 ≤ x → Normal (UnitFactor x) a → Each (λ t s. DivisorOf (λ k. 0 < k) t) a
+DisjunctionKeeps = (x : ℕ) (a : Rule) → 1 ≤ x → Normal (UnitFactor x) a → Each PositiveDivisor a
     → Same (disjunction (period a) x a) (Some x a)
 
 -- ---- elimination is sound

@@ -7,11 +7,8 @@ use lib.Dec.{eqb, leb}
 use lib.IntN.{ℤ, natAbs}
 use Rattle.rules.specs.Rule.{Rule, Not, And, Some}
 use Rattle.rules.specs.Result.{Result, _>>=_, require}
-use Rattle.rules.specs.Table.{size, is-setting}
+use Rattle.rules.specs.Table.{size, is-setting, all-settings}
 use Rattle.rules.specs.Eliminate.{eliminate}
-
-abbrev pub all-settings : List ℕ
-all-settings = 1 ∷ 2 ∷ 3 ∷ 4 ∷ 5 ∷ 6 ∷ []
 
 -- the settings of a list but v
 unfoldable pub others : ℕ → List ℕ → List ℕ
@@ -32,8 +29,8 @@ question v a = some-of-each (others v all-settings) (And (Some v a) (Some v (Not
 -- before folding (6)."
 unfoldable pub leave-off : ℕ → ℤ → Rule → Result Rule
 unfolding is-setting question eliminate size require _>>=_
-leave-off room v a =
-    require (is-setting v) 8 >>= λ u.
-    let q = question (natAbs v) a in
-    require (leb (size q) room) 6 >>= λ w.
-    eliminate room q
+leave-off room v a = do
+  _ ← require (is-setting v) 8
+  let q = question (natAbs v) a
+  _ ← require (leb (size q) room) 6
+  eliminate room q

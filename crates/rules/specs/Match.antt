@@ -35,7 +35,7 @@ most-value = 500000000
 -- "for matching 10, then 9"
 unfoldable pub matching : List ℤ → Rule → Result Bool
 unfolding holds all-within quantified require _>>=_
-matching vs a =
-    require (not (quantified a)) 10 >>= λ u.
-    require (all-within most-value vs) 9 >>= λ w.
-    given (holds a (choice vs))
+matching vs a = do
+  _ ← require (not (quantified a)) 10
+  _ ← require (all-within most-value vs) 9
+  given (holds a (choice vs))

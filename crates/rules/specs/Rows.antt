@@ -1,11 +1,11 @@
 -- Rows: a row is a whole call on bytes beside everything that it leaves, and one test says whether a row is right.
 -- Assumes nothing.
 use mathlib.Core.Bool.{Bool, true, false, _&&_}
-use mathlib.Core.List.{List, [], _∷_, map, zipWith}
-use Prim.Native.Nat.{ℕ, zero, suc, _*_, pred}
+use mathlib.Core.List.{List, [], _∷_, _++_, map, zipWith}
+use Prim.Native.Nat.{ℕ, _*_, pred}
 use lib.Dec.{eqb}
 use lib.IntN.{ℤ, pos, negsuc, _+ℤ_, _-ℤ_, _*ℤ_}
-use lib.ListN.{length}
+use lib.ListN.{length, take, replicate}
 use Rattle.rules.specs.Sum.{Sum}
 use Rattle.rules.specs.Rule.{positive, divisible, is-zero, Rule, Literal, Some}
 use Rattle.rules.specs.Result.{Result, refused, given, _>>=_}
@@ -57,21 +57,15 @@ same-numbers (a ∷ l) [] = false
 same-numbers (a ∷ l) (b ∷ m) = elim (eqb a b) [ true ↦ same-numbers l m | false ↦ false ]
 
 -- n bytes: these, then zeros
-unfoldable pub filled : ℕ → List ℕ → List ℕ → Bool
-filled zero [] [] = true
-filled zero [] (c ∷ l) = false
-filled zero (b ∷ bs) l = false
-filled (suc n) bs [] = false
-filled (suc n) [] (zero ∷ l) = filled n [] l
-filled (suc n) [] (suc c ∷ l) = false
-filled (suc n) (b ∷ bs) (c ∷ l) = elim (eqb b c) [ true ↦ filled n bs l | false ↦ false ]
+abbrev pub filled : ℕ → List ℕ → List ℕ
+filled n bs = take n (bs ++ replicate n 0)
 
 unfoldable pub leaves : Outcome → ℕ → ℕ → Expected → Bool
-unfolding same-numbers filled bytes-of
+unfolding same-numbers bytes-of
 leaves o out work e =
     same-numbers (four (o .answer)) (four-expected e) &&
-    filled out (bytes-of (table-expected e)) (o .output) &&
-    filled work [] (o .work)
+    same-numbers (o .output) (filled out (bytes-of (table-expected e))) &&
+    same-numbers (o .work) (filled work [])
 
 unfoldable pub as-expected : Call → Expected → Bool
 unfolding eliminated left-off matched leaves same-numbers

@@ -3,7 +3,7 @@
 -- The operations take lists of any length, a missing word being 0, so that their laws ask nothing.
 -- Assumes nothing.
 use mathlib.Core.Bool.{Bool, true, false, not, _&&_, cond}
-use mathlib.Core.List.{List, [], _∷_}
+use mathlib.Core.List.{List, [], _∷_, map}
 use Prim.Native.Nat.{ℕ, zero, suc}
 use lib.Dec.{eqb}
 use lib.IntN.{ℤ, pos, negsuc, _+ℤ_, _*ℤ_}
@@ -37,8 +37,7 @@ add (a ∷ s) [] = a ∷ s
 add (a ∷ s) (b ∷ t) = (a +ℤ b) ∷ add s t
 
 unfoldable pub scale : ℤ → Sum → Sum
-scale k [] = []
-scale k (a ∷ s) = (k *ℤ a) ∷ scale k s
+scale k s = map (λ a. k *ℤ a) s
 
 unfoldable pub negate : Sum → Sum
 unfolding scale

@@ -90,11 +90,20 @@ size r = length (encode r)
 
 -- ---- what a table can hold
 
--- "Settings are 1 to 6, k is at least 1" (and a word is never over the limit)
-unfoldable pub is-setting : ℤ → Bool
-is-setting (pos v) = leb 1 v && leb v 6
-is-setting (negsuc v) = false
+-- a number from 1 to m
+unfoldable pub up-to : ℕ → ℤ → Bool
+up-to m (pos n) = leb 1 n && leb n m
+up-to m (negsuc n) = false
 
+-- "Settings are 1 to 6"
+unfoldable pub is-setting : ℤ → Bool
+unfolding up-to
+is-setting v = up-to 6 v
+
+abbrev pub all-settings : List ℕ
+all-settings = 1 ∷ 2 ∷ 3 ∷ 4 ∷ 5 ∷ 6 ∷ []
+
+-- "k is at least 1" (and a word is never over the limit)
 unfoldable pub is-divisor : ℤ → Bool
-is-divisor (pos k) = leb 1 k && leb k limit
-is-divisor (negsuc k) = false
+unfolding up-to
+is-divisor k = up-to limit k
