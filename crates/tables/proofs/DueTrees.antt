@@ -25,7 +25,8 @@ pub record Due (bs : List ℤ) (n left m w : ℕ) : Type 0 where
   pub verdict : (v : Tree) → TreeAt (drop w bs) (n + m) (left - m) v → TreeAt bs n left (beyond m w v)
 
 -- what holds of some bodies, however they and their numbers are written
-pub written : (P : List ℤ → ℕ → ℕ → Type 0) {bs cs : List ℤ} {n m i j : ℕ} → bs ≡ cs → n ≡ m → i ≡ j → P bs n i → P cs m j
+pub written : (P : List ℤ → ℕ → ℕ → Type 0) {bs cs : List ℤ} {n m i j : ℕ} → bs ≡ cs → n ≡ m → i ≡ j
+    → P bs n i → P cs m j
 written P {bs = bs} {n = n} {m = m} {j = j} a b c p =
     subst (λ (x : List ℤ). P x m j) a (subst (λ (x : ℕ). P bs x j) b (subst (P bs n) c p))
 

@@ -7,26 +7,22 @@ use Prim.Native.Nat.{ℕ, zero, suc, _+_, _-_, _<_, _≤_}
 use native.Mathlib.Omega.{arith}
 use borrow.Author.Tests.{ltb-true, ltb-false, le-leb, lt-leb}
 use lib.Dec.{ltb, leb}
-use lib.IntN.{ℤ, pos, negsuc, natAbs}
+use lib.IntN.{ℤ, pos, natAbs}
 use lib.ListN.{length, getD, take, drop, length-take, length-drop, drop-of-length-le}
 use lib.Seq.{slice, slice-cons, take-add, length-take-le, drop-at, drop-cons, drop-drop}
 use Rattle.whole.specs.Integers.{within}
 use Rattle.rules.specs.Sum.{limit, all-within}
 use Rattle.rules.specs.Rule.{divisible}
 use Rattle.rules.specs.Result.{Result, refused, given, _>>=_, require}
-use Rattle.rules.specs.Table.{literal-node, is-setting, is-divisor}
+use Rattle.rules.specs.Table.{literal-node, up-to, is-setting, is-divisor}
 use Rattle.rules.specs.Calls.{signed}
 use Rattle.rules.specs.Decode.{cut, checked, sum-field, sum-of, divisor-and-sum}
-use Rattle.rules.proofs.Refusals.{then}
+use Rattle.rules.proofs.Refusals.{then, stopped}
 use Rattle.rules.proofs.Decoding.{checked-forth}
-use Rattle.tables.specs.Reads.{Passes, SumAt, NumberAt, DividedAt, up-to}
+use Rattle.tables.specs.Reads.{Passes, SumAt, NumberAt, DividedAt}
 use Rattle.tables.proofs.WordLaws.{signed-low, signed-high}
 
 -- ---- results
-
-stopped : {A B : Type 0} {x : Result A} {n : ℕ} (f : A → Result B) → x ≡ refused n → (x >>= f) ≡ refused n
-unfolding _>>=_
-stopped f e = ap (λ r. r >>= f) e
 
 -- what is given is turned into something else
 pub turned : {A B : Type 0} (x : Result A) (f : A → B) (r : Bool) → Passes x r → Passes (x >>= λ a. given (f a)) r
@@ -79,35 +75,35 @@ all-seen ws i to h =
     let short : length (take to ws) ≤ i = omega (arith, length-take to ws) in
     ap (all-within limit) (drop-of-length-le (take to ws) short)
 
--- ---- a sum
+-- ---- so many words, and a sum
 
 slice-take : (q m : ℕ) (l : List ℤ) → q ≤ length l → slice q (q + m) l ≡ take m (drop q l)
 slice-take q m l h =
     ap (drop q) (take-add q m l) ∙ drop-at (take q l) (take m (drop q l)) q (length-take-le q l h)
 
-cut-yes : (n m : ℕ) (l : List ℤ) → m ≤ length l → cut n m l ≡ given (take m l, drop m l)
+pub cut-given : (n m : ℕ) (l : List ℤ) → m ≤ length l → cut n m l ≡ given (take m l, drop m l)
 unfolding cut
-cut-yes n zero l h = refl
-cut-yes n (suc m) [] h = absurd (omega arith)
-cut-yes n (suc m) (w ∷ l) h = then _ (cut-yes n m l (omega arith))
+cut-given n zero l h = refl
+cut-given n (suc m) [] h = absurd (omega arith)
+cut-given n (suc m) (w ∷ l) h = then _ (cut-given n m l (omega arith))
 
-cut-no : (n m : ℕ) (l : List ℤ) → length l < m → cut n m l ≡ refused n
+pub cut-refused : (n m : ℕ) (l : List ℤ) → length l < m → cut n m l ≡ refused n
 unfolding cut
-cut-no n zero l h = absurd (omega arith)
-cut-no n (suc m) [] h = refl
-cut-no n (suc m) (w ∷ l) h = stopped _ (cut-no n m l (omega arith))
+cut-refused n zero l h = absurd (omega arith)
+cut-refused n (suc m) [] h = refl
+cut-refused n (suc m) (w ∷ l) h = stopped _ (cut-refused n m l (omega arith))
 
 -- there are n words
 module _ (ws : List ℤ) (q n : ℕ) (as-many : n ≡ length ws) where
   pub no-sum : n < q + 7 → SumAt ws q false
   unfolding SumAt
-  no-sum h = stopped _ (cut-no 3 7 (drop q ws) (omega (arith, length-drop q ws)))
+  no-sum h = stopped _ (cut-refused 3 7 (drop q ws) (omega (arith, length-drop q ws)))
 
   pub a-sum : q + 7 ≤ n → (r : Bool) → r ≡ all-within limit (slice q (q + 7) ws) → SumAt ws q r
   unfolding SumAt
   a-sum h r e =
       same
-      (then _ (cut-yes 3 7 (drop q ws) (omega (arith, length-drop q ws))))
+      (then _ (cut-given 3 7 (drop q ws) (omega (arith, length-drop q ws))))
       (e ∙ ap (all-within limit) (slice-take q 7 ws (omega arith)))
       (tested (all-within limit (take 7 (drop q ws))) (take 7 (drop q ws), drop 7 (drop q ws)))
 
@@ -146,29 +142,13 @@ module _ (ws : List ℤ) (m n : ℕ) (as-many : n ≡ length ws) where
     pub in-range : 1 ≤ u → NumberAt ws m (leb u m)
     in-range h = numbered (leb u m) (sym (ap (λ b. b && leb u m) (le-leb 1 u h)))
 
--- a test that is the same on every number
-checked-as : (f g : ℤ → Bool) → ((z : ℤ) → f z ≡ g z) → (ws : List ℤ) → checked f ws ≡ checked g ws
-unfolding checked
-checked-as f g h [] = refl
-checked-as f g h (w ∷ ws) = ap (λ b. require b 3 >>= λ u. given (natAbs w, ws)) (h w)
-
-setting-as : (z : ℤ) → is-setting z ≡ up-to 6 z
-unfolding is-setting up-to
-setting-as (pos n) = refl
-setting-as (negsuc n) = refl
-
-divisor-as : (z : ℤ) → is-divisor z ≡ up-to limit z
-unfolding is-divisor up-to
-divisor-as (pos n) = refl
-divisor-as (negsuc n) = refl
-
 pub a-setting : (ws : List ℤ) (r : Bool) → NumberAt ws 6 r → Passes (checked is-setting (drop 1 ws)) r
-unfolding NumberAt
-a-setting ws r h = same {r = r} (checked-as is-setting (up-to 6) setting-as (drop 1 ws)) refl h
+unfolding NumberAt is-setting
+a-setting ws r h = h
 
 a-divisor : (ws : List ℤ) (r : Bool) → NumberAt ws limit r → Passes (checked is-divisor (drop 1 ws)) r
-unfolding NumberAt
-a-divisor ws r h = same {r = r} (checked-as is-divisor (up-to limit) divisor-as (drop 1 ws)) refl h
+unfolding NumberAt is-divisor
+a-divisor ws r h = h
 
 -- ---- a divisor and a sum
 

@@ -5,12 +5,15 @@ pub mod Standings
 pub mod Inversion
 pub mod SideLaws
 pub mod Fields
+pub mod Lookups
 pub mod KindLaws
+pub mod ReadingLaws
 pub mod TreeLaws
 pub mod DueTrees
 pub mod TreeSteps
 pub mod WalkLaws
 pub mod Parts
-pub mod CheckLaws
+pub mod NodeSteps
 pub mod VerdictLaws
 pub mod Passed
+pub mod LastLaws

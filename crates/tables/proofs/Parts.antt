@@ -1,7 +1,7 @@
 -- A rule that stands in two parts of a table's bytes, by the kind that its first word is: its shape, where its own parts
 -- start, and that they are there.
 -- Assumes nothing.
-use mathlib.Core.Path.{_≡_, sym, _∙_, ap, subst}
+use mathlib.Core.Path.{_≡_, refl, sym, _∙_, ap}
 use mathlib.Core.Bool.{Bool}
 use mathlib.Core.List.{List}
 use Prim.Native.Nat.{ℕ, _+_, _-_, _*_, _<_, _≤_}
@@ -12,15 +12,15 @@ use lib.IntN.{ℤ, pos}
 use lib.ListN.{length, getD, take, drop, length-drop}
 use Rattle.rules.specs.Sum.{Sum}
 use Rattle.rules.specs.Rule.{Junction, Quantifier, Test, Rule, Constant, Join, Not, Literal, Bind}
-use Rattle.rules.specs.Table.{count}
+use Rattle.rules.specs.Table.{count, nodes}
 use Rattle.rules.specs.Calls.{signed, words}
-use Rattle.rules.proofs.Sizes.{weight, count-pos, weight-pos}
+use Rattle.rules.proofs.Sizes.{weight}
 use Rattle.tables.specs.Standing.{Stands, Few}
-use Rattle.tables.proofs.WordLaws.{words-from, words-length}
-use Rattle.tables.proofs.WalkLaws.{part}
-use Rattle.tables.proofs.Standings.{inside-entries, inside-bodies}
+use Rattle.tables.proofs.WordLaws.{part, words-from, words-length}
+use Rattle.tables.proofs.Standings.{nodes-moved}
 use Rattle.tables.proofs.Inversion.{join-kind, test-kind, bind-kind, BodyAt, Shape, shape}
 use Rattle.tables.proofs.Inversion.{constant, join, negation, literal, bind}
+pub use Rattle.tables.proofs.Standings.{root-there, bind-there, join-there, right-there}
 
 -- ---- parts
 
@@ -34,10 +34,7 @@ bytes-length l e = ap length (part-to-end l e) ∙ length-drop e l
 -- the same parts, otherwise said
 pub moved : {es fs bs cs : List ℤ} {n m p q : ℕ} (r : Rule) → es ≡ fs → bs ≡ cs → n ≡ m → p ≡ q → Stands es bs n p r
     → Stands fs cs m q r
-moved {es} {fs} {bs} {cs} {n} {m} {p} {q} r e f g h s =
-    subst (λ (x : List ℤ). Stands x cs m q r) e
-    (subst (λ (x : List ℤ). Stands es x m q r) f
-    (subst (λ (x : ℕ). Stands es bs x q r) g (subst (λ (x : ℕ). Stands es bs n x r) h s)))
+moved r = nodes-moved (nodes r)
 
 pub few-moved : {es fs bs cs : List ℤ} {n m p q : ℕ} → es ≡ fs → bs ≡ cs → n ≡ m → p ≡ q → Few es bs n p → Few fs cs m q
 few-moved e f g h few = record {
@@ -60,11 +57,9 @@ few-part le lb i j h g few = record {
   few-words = omega (arith, few .few-words, part-words lb j);
 }
 
-stands-part : (le lb : List ℕ) (i j n p : ℕ) (a : Rule)
+pub stands-part : (le lb : List ℕ) (i j n p : ℕ) (a : Rule)
     → Stands (drop i (words le)) (drop j (words lb)) n p a → Stands (part le i) (part lb j) n p a
-stands-part le lb i j n p a s =
-    subst (λ (es : List ℤ). Stands es (part lb j) n p a) (sym (words-from le i))
-    (subst (λ (bs : List ℤ). Stands (drop i (words le)) bs n p a) (sym (words-from lb j)) s)
+stands-part le lb i j n p a = moved a (sym (words-from le i)) (sym (words-from lb j)) refl refl
 
 -- ---- the shape
 
@@ -91,26 +86,3 @@ parts {le} {lb} {n} {p} k first a s = go a (shape k first a s)
     go a (negation b i x) = a-not b i (stands-part le lb 1 1 (n + 1) (p + 1) b x)
     go a (literal t u i x) = a-literal t u i x
     go a (bind q v b i w x) = a-bind q v b i w (stands-part le lb 1 2 (n + 1) (p + 2) b x)
-
--- ---- what is there, in words
-
-module _ {es bs : List ℤ} {n p : ℕ} where
-  -- the root's entry and its kind
-  pub root-there : (a : Rule) → Stands es bs n p a → (1 ≤ length es) × (1 ≤ length bs)
-  root-there a s = (omega (arith, inside-entries a s, count-pos a), omega (arith, inside-bodies a s, weight-pos a))
-
-  -- the two words of a join and of a quantifier
-  pub bind-there : (q : Quantifier) (v : ℕ) (a : Rule) → Stands es bs n p (Bind q v a) → 2 ≤ length bs
-  unfolding weight
-  bind-there q v a s = omega (arith, inside-bodies (Bind q v a) s)
-
-  pub join-there : (j : Junction) (a b : Rule) → Stands es bs n p (Join j a b) → 2 ≤ length bs
-  unfolding weight
-  join-there j a b s = omega (arith, inside-bodies (Join j a b) s)
-
-  -- the right side's entry, and the words before it
-  pub right-there : (j : Junction) (a b : Rule) → Stands es bs n p (Join j a b)
-      → (1 + count a < length es) × (2 + weight a ≤ length bs)
-  unfolding count weight
-  right-there j a b s =
-      (omega (arith, inside-entries (Join j a b) s, count-pos b), omega (arith, inside-bodies (Join j a b) s))

@@ -5,7 +5,6 @@ use mathlib.Core.List.{List, [], append-nil}
 use Prim.Native.Nat.{ℕ, _+_, _≤_, _<_, _%_}
 use native.Mathlib.Omega.{arith}
 use lib.Dec.{eqb}
-use lib.IntN.{ℤ}
 use lib.ListN.{length, drop, length-drop}
 use Rattle.rules.specs.Rule.{Rule}
 use Rattle.rules.specs.Result.{given}
@@ -17,13 +16,11 @@ use Rattle.rules.proofs.Sizes.{length-nodes, count-pos}
 use Rattle.rules.proofs.Encoding.{AllGood, good-nodes}
 use Rattle.rules.proofs.Decoding.{encode-decode}
 use Rattle.rules.proofs.Bytes.{rule-forth}
-use Rattle.tables.specs.Standing.{Stands}
-use Rattle.tables.specs.Checks.{Listed, Verdict}
+use Rattle.tables.specs.Standing.{Stands, TableAt}
+use Rattle.tables.specs.Checks.{Verdict}
 use Rattle.tables.specs.declared.check.Checked.{Checked}
 use Rattle.tables.specs.declared.check.Checked.the-variants.{Table}
-use Rattle.tables.proofs.WordLaws.{words-from}
-use Rattle.tables.proofs.WalkLaws.{part}
-use Rattle.tables.proofs.Standings.{whole-bodies, whole-stands, inside-entries}
+use Rattle.tables.proofs.Standings.{bodies-there, stands-there, inside-entries}
 
 -- the bytes are the table of the rule r, of n nodes
 pub record TableOf (l : List ℕ) (n : ℕ) (r : Rule) : Type 0 where
@@ -56,33 +53,22 @@ module _ {l : List ℕ} {n : ℕ} {r : Rule} (t : TableOf l n r) where
   unfolding size
   table-most = omega (arith, ap length table-words, rule-forth l r (t .decodes) .1)
 
-  pub some-nodes : 0 < n
-  some-nodes = omega (arith, t .counted, count-pos r)
-
-  stands-whole : Stands (drop 1 (words l)) (drop (n + 1) (words l)) 0 (n + 1) r
-  stands-whole =
-      subst (λ (k : ℕ). Stands (drop 1 (words l)) (drop (k + 1) (words l)) 0 (k + 1) r) (sym (t .counted))
-      (subst (λ (k : ℕ). Stands (drop 1 (words l)) (drop k (words l)) 0 (count r + 1) r) one-more
-      (subst (λ (W : List ℤ). Stands (drop 1 W) (drop (1 + count r) W) 0 (count r + 1) r) (sym table-words)
-      (whole-stands r)))
-    where
-      one-more : 1 + count r ≡ count r + 1
-      one-more = omega arith
+  pub table-at : TableAt (words l) r
+  table-at = record { after = []; begins = table-words ∙ sym (append-nil (encode r)) }
 
   -- the rule stands behind the first word, with its bodies behind the entries
-  pub table-stands : Stands (part l 1) (part l (n + 1)) 0 (n + 1) r
+  pub table-stands : Stands (drop 1 (words l)) (drop (n + 1) (words l)) 0 (n + 1) r
   table-stands =
-      subst (λ (es : List ℤ). Stands es (part l (n + 1)) 0 (n + 1) r) (sym (words-from l 1))
-      (subst (λ (bs : List ℤ). Stands (drop 1 (words l)) bs 0 (n + 1) r) (sym (words-from l (n + 1))) stands-whole)
+      subst (λ (k : ℕ). Stands (drop 1 (words l)) (drop (k + 1) (words l)) 0 (k + 1) r) (sym (t .counted))
+      (stands-there table-at)
 
   pub table-inside : n < length (words l)
-  table-inside = omega (arith, inside-entries r stands-whole, t .counted, count-pos r, length-drop 1 (words l))
+  table-inside = omega (arith, inside-entries r table-stands, t .counted, count-pos r, length-drop 1 (words l))
 
-  pub table-bodies : part l (n + 1) ≡ bodies 0 (nodes r)
+  pub table-bodies : drop (n + 1) (words l) ≡ bodies 0 (nodes r)
+  unfolding table-at
   table-bodies =
-      let place : n + 1 ≡ 1 + count r = omega (arith, t .counted) in
-      words-from l (n + 1) ∙ ap (λ (k : ℕ). drop k (words l)) place
-      ∙ ap (drop (1 + count r)) table-words ∙ whole-bodies r
+      ap (λ (k : ℕ). drop (k + 1) (words l)) (t .counted) ∙ bodies-there table-at ∙ append-nil (bodies 0 (nodes r))
 
   pub table-long : length (nodes r) ≡ n
   table-long = length-nodes r ∙ sym (t .counted)
@@ -90,6 +76,3 @@ module _ {l : List ℕ} {n : ℕ} {r : Rule} (t : TableOf l n r) where
   pub table-good : AllGood (nodes r)
   unfolding AllGood
   table-good = subst AllGood (append-nil (nodes r)) (good-nodes r [] .1 (table-formed, tt))
-
-  pub table-listed : Listed (part l (n + 1)) 0 n
-  table-listed = record { nodes = nodes r; bodies = table-bodies; long = table-long; good = table-good }

@@ -48,7 +48,7 @@ same-settings s p q i e = record { small = i .small; each = λ v h k. i .each v 
 
 -- ---- a union
 
-low-or : (a b : ℕ) → bitOr a b % 2 ≡ max (a % 2) (b % 2)
+pub low-or : (a b : ℕ) → bitOr a b % 2 ≡ max (a % 2) (b % 2)
 low-or a b = rw (or-step a b) (omega arith)
 
 either : (x y : ℕ) → x < 2 → y < 2 → eqb (max x y) 1 ≡ (eqb x 1 || eqb y 1)

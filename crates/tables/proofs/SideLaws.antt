@@ -9,11 +9,10 @@ use lib.ListN.{length, getD}
 use Rattle.rules.specs.Rule.{Junction, Rule, Join}
 use Rattle.rules.specs.Table.{count}
 use Rattle.rules.specs.Calls.{signed}
-use Rattle.rules.proofs.Sizes.{weight, count-pos}
+use Rattle.rules.proofs.Sizes.{weight}
 use Rattle.tables.specs.Standing.{Stands, Few, StandingJoin, RightOf}
-use Rattle.tables.specs.declared.sides.Side.{Side}
 use Rattle.tables.proofs.WordLaws.{number-of}
-use Rattle.tables.proofs.Standings.{right-child, right-entry, inside-entries, inside-bodies}
+use Rattle.tables.proofs.Standings.{right-child, right-entry, right-there}
 
 pub record JoinAt (es bs : List ℤ) (n p : ℕ) : Type 0 where
   pub some : StandingJoin es bs n p
@@ -22,13 +21,7 @@ pub record JoinAt (es bs : List ℤ) (n p : ℕ) : Type 0 where
 -- a join has its own node and those of its sides
 module _ {es bs : List ℤ} {n p : ℕ} (join : JoinAt es bs n p) where
   inside : (1 + count (join .some .left-side) < length es) × (2 + weight (join .some .left-side) ≤ length bs)
-  unfolding count weight
-  inside =
-      let s = join .some in
-      let whole = Join (s .joint) (s .left-side) (s .right-side) in (
-        omega (arith, inside-entries whole (s .stands), count-pos (s .right-side)),
-        omega (arith, inside-bodies whole (s .stands)),
-      )
+  inside = let s = join .some in right-there (s .joint) (s .left-side) (s .right-side) (s .stands)
 
   pub second-word : 1 < length bs
   second-word = omega (arith, inside .1)

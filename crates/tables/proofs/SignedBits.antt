@@ -42,13 +42,13 @@ upper-fits u l = rw (le-ltb u (2 ^ 31) l) (record { sfits = omega arith })
 -- ---- from a number to its bits
 
 -- z has the bits of v, and the machine can hold it on the way
-pub record Carries (v z : ℤ) : Type 0 where
+pub record HasBits (z v : ℤ) : Type 0 where
   pub fits : SFits w64 z
   pub natural : T (nonNeg z)
   pub low : Fits w32 (natAbs z)
   pub same : natAbs z ≡ bits v
 
-pub below : (v : ℤ) → SFits w32 v → ltZ v (pos 0) ≡ true → Carries v (v +ℤ pos (2 ^ 32))
+pub below : (v : ℤ) → SFits w32 v → ltZ v (pos 0) ≡ true → HasBits (v +ℤ pos (2 ^ 32)) v
 below (pos n) f t = absurd (omega (arith, ltb-true n 0 t))
 below (negsuc n) f t =
     let n-fits = f .sfits in
@@ -61,7 +61,7 @@ below (negsuc n) f t =
       same = omega arith;
     })
 
-pub not-below : (v : ℤ) → SFits w32 v → ltZ v (pos 0) ≡ false → Carries v v
+pub not-below : (v : ℤ) → SFits w32 v → ltZ v (pos 0) ≡ false → HasBits v v
 not-below (pos n) f t =
     let n-fits = f .sfits in
     record { fits = record { sfits = omega arith }; natural = tt; low = record { fits = omega arith }; same = refl }

@@ -1,17 +1,19 @@
--- Laws of standing: the parts of a rule stand behind its root, the right child behind its entry, and a whole table's rule
--- behind its count.
+-- Laws of standing: the parts of a rule stand behind its root, the right child behind its entry, and a table's rule
+-- behind its count; and all their words are there.
 -- Assumes nothing.
 use mathlib.Core.Path.{_≡_, refl, sym, _∙_, ap, subst}
-use mathlib.Core.List.{List, [], _∷_, _++_, append-assoc, append-nil}
+use mathlib.Core.List.{List, [], _∷_, _++_, append-assoc}
 use Prim.Native.Nat.{ℕ, suc, _+_, _<_, _≤_}
 use native.Mathlib.Omega.{arith}
 use lib.IntN.{ℤ, pos}
 use lib.ListN.{length, getD, drop, length-append, List·getD-append}
-use lib.Seq.{drop-append-seam, drop-drop, getD-drop}
+use lib.Seq.{drop-at, drop-drop, getD-drop}
 use Rattle.rules.specs.Rule.{Junction, and, or, Quantifier, Rule, Constant, Join, Not, Literal, Bind}
-use Rattle.rules.specs.Table.{Node, join-node, not-node, bind-node, body, width, count, nodes, starts, bodies, encode}
-use Rattle.rules.proofs.Sizes.{words, weight, total, length-nodes, length-starts, length-body, length-bodies, weight-is}
-use Rattle.tables.specs.Standing.{Nodes, Stands}
+use Rattle.rules.specs.Table.{Node, join-node, not-node, bind-node}
+use Rattle.rules.specs.Table.{body, width, count, nodes, starts, bodies, encode, size}
+use Rattle.rules.proofs.Sizes.{words, weight, total, count-pos, weight-pos, weight-is}
+use Rattle.rules.proofs.Sizes.{length-nodes, length-starts, length-body, length-bodies}
+use Rattle.tables.specs.Standing.{Nodes, Stands, TableAt}
 
 -- ---- entries and bodies of nodes one after the other
 
@@ -35,10 +37,17 @@ bodies-append n (d ∷ ds) fs =
     (bodies-append (n + 1) ds fs ∙ ap (λ (m : ℕ). bodies (n + 1) ds ++ bodies m fs) (omega arith))
     ∙ sym (append-assoc (body n d) (bodies (n + 1) ds) (bodies (n + suc (length ds)) fs))
 
-past : (xs : List ℤ) (k : ℕ) → length xs ≡ k → (ys : List ℤ) → drop k (xs ++ ys) ≡ ys
-past xs k e ys = subst (λ (m : ℕ). drop m (xs ++ ys) ≡ ys) e (drop-append-seam xs ys)
-
 -- ---- nodes stand behind those before them
+
+-- the same parts, otherwise said
+pub nodes-moved : {es fs bs cs : List ℤ} {n m p q : ℕ} (ds : List Node) → es ≡ fs → bs ≡ cs → n ≡ m → p ≡ q
+    → Nodes es bs n p ds → Nodes fs cs m q ds
+nodes-moved ds e f g h s = record {
+  entries-after = s .entries-after;
+  bodies-after = s .bodies-after;
+  entries = sym e ∙ s .entries ∙ ap (λ (k : ℕ). starts k ds ++ s .entries-after) h;
+  bodies = sym f ∙ s .bodies ∙ ap (λ (k : ℕ). bodies k ds ++ s .bodies-after) g;
+}
 
 module _ {es bs : List ℤ} {n p : ℕ} where
   -- the first nodes of a run
@@ -62,8 +71,9 @@ module _ {es bs : List ℤ} {n p : ℕ} where
         entries-after = s .entries-after;
         bodies-after = s .bodies-after;
         entries = ap (drop (length ds)) (f .entries)
-            ∙ past (starts p ds) (length ds) (length-starts p ds) (f .entries-after);
-        bodies = ap (drop (total ds)) (f .bodies) ∙ past (bodies n ds) (total ds) (length-bodies n ds) (f .bodies-after);
+            ∙ drop-at (starts p ds) (f .entries-after) (length ds) (length-starts p ds);
+        bodies = ap (drop (total ds)) (f .bodies)
+            ∙ drop-at (bodies n ds) (f .bodies-after) (total ds) (length-bodies n ds);
       }
 
   -- the first node
@@ -120,20 +130,12 @@ module _ {es bs : List ℤ} {n p : ℕ} where
   pub right : (j : Junction) (a b : Rule) → Stands es bs n p (Join j a b)
       → Stands (drop (1 + count a) es) (drop (2 + weight a) bs) (n + (1 + count a)) (p + (2 + weight a)) b
   right j a b s =
-      moved (length (nodes a)) (total (nodes a)) (length-nodes a) (weight-is a)
+      nodes-moved (nodes b)
+      (drop-drop (length (nodes a)) 1 es ∙ ap (λ (k : ℕ). drop (1 + k) es) (length-nodes a))
+      (drop-drop (total (nodes a)) 2 bs ∙ ap (λ (k : ℕ). drop (2 + k) bs) (weight-is a))
+      (omega (arith, length-nodes a))
+      (omega (arith, weight-is a))
       (behind (nodes a) (nodes b) (children j a b s))
-    where
-      moved : (c w : ℕ) → c ≡ count a → w ≡ weight a
-          → Nodes (drop c (drop 1 es)) (drop w (drop 2 bs)) (n + 1 + c) (p + 2 + w) (nodes b)
-          → Stands (drop (1 + count a) es) (drop (2 + weight a) bs) (n + (1 + count a)) (p + (2 + weight a)) b
-      moved c w e f t = record {
-        entries-after = t .entries-after;
-        bodies-after = t .bodies-after;
-        entries = ap (λ (k : ℕ). drop (1 + k) es) (sym e) ∙ sym (drop-drop c 1 es) ∙ t .entries
-            ∙ ap (λ (k : ℕ). starts k (nodes b) ++ t .entries-after) (omega arith);
-        bodies = ap (λ (k : ℕ). drop (2 + k) bs) (sym f) ∙ sym (drop-drop w 2 bs) ∙ t .bodies
-            ∙ ap (λ (k : ℕ). bodies k (nodes b) ++ t .bodies-after) (omega arith);
-      }
 
   -- "the right child is the first node after the left subtree", and its entry is where the left subtree ends
   pub right-child : (j : Junction) (a b : Rule) → Stands es bs n p (Join j a b)
@@ -165,19 +167,59 @@ module _ {es bs : List ℤ} {n p : ℕ} where
   pub inside-bodies : (r : Rule) → Stands es bs n p r → weight r ≤ length bs
   inside-bodies r s = omega (arith, enough-bodies (nodes r) s, weight-is r)
 
--- ---- the whole table
+  -- ---- what is there
 
-pub whole-bodies : (r : Rule) → drop (1 + count r) (encode r) ≡ bodies 0 (nodes r)
-unfolding encode
-whole-bodies r =
-    past (pos (length (nodes r)) ∷ starts (length (nodes r) + 1) (nodes r)) (1 + count r)
-    (omega (arith, length-starts (length (nodes r) + 1) (nodes r), length-nodes r)) (bodies 0 (nodes r))
+  -- the root's entry and its kind
+  pub root-there : (a : Rule) → Stands es bs n p a → (1 ≤ length es) × (1 ≤ length bs)
+  root-there a s = (omega (arith, inside-entries a s, count-pos a), omega (arith, inside-bodies a s, weight-pos a))
 
-pub whole-stands : (r : Rule) → Stands (drop 1 (encode r)) (drop (1 + count r) (encode r)) 0 (count r + 1) r
-unfolding encode
-whole-stands r = record {
-  entries-after = bodies 0 (nodes r);
-  bodies-after = [];
-  entries = ap (λ (k : ℕ). starts (k + 1) (nodes r) ++ bodies 0 (nodes r)) (length-nodes r);
-  bodies = whole-bodies r ∙ sym (append-nil (bodies 0 (nodes r)));
-}
+  -- the two words of a join and of a quantifier
+  pub bind-there : (q : Quantifier) (v : ℕ) (a : Rule) → Stands es bs n p (Bind q v a) → 2 ≤ length bs
+  unfolding weight
+  bind-there q v a s = omega (arith, inside-bodies (Bind q v a) s)
+
+  pub join-there : (j : Junction) (a b : Rule) → Stands es bs n p (Join j a b) → 2 ≤ length bs
+  unfolding weight
+  join-there j a b s = omega (arith, inside-bodies (Join j a b) s)
+
+  -- the right side's entry, and the words before it
+  pub right-there : (j : Junction) (a b : Rule) → Stands es bs n p (Join j a b)
+      → (1 + count a < length es) × (2 + weight a ≤ length bs)
+  unfolding count weight
+  right-there j a b s =
+      (omega (arith, inside-entries (Join j a b) s, count-pos b), omega (arith, inside-bodies (Join j a b) s))
+
+-- ---- a table at the start of some words, which others may follow
+
+module _ {ts : List ℤ} {r : Rule} (t : TableAt ts r) where
+  pub count-there : getD ts 0 (pos 0) ≡ pos (count r)
+  unfolding encode
+  count-there = ap (λ (l : List ℤ). getD l 0 (pos 0)) (t .begins) ∙ ap pos (length-nodes r)
+
+  pub size-there : size r ≤ length ts
+  unfolding size
+  size-there = omega (arith, ap length (t .begins), length-append (encode r) (t .after))
+
+  pub bodies-there : drop (count r + 1) ts ≡ bodies 0 (nodes r) ++ t .after
+  unfolding encode
+  bodies-there =
+      ap (drop (count r + 1)) (t .begins ∙ append-assoc contents (bodies 0 (nodes r)) (t .after))
+      ∙ drop-at contents (bodies 0 (nodes r) ++ t .after) (count r + 1) contents-long
+    where
+      contents : List ℤ
+      contents = pos (length (nodes r)) ∷ starts (length (nodes r) + 1) (nodes r)
+
+      contents-long : length contents ≡ count r + 1
+      contents-long = omega (arith, length-starts (length (nodes r) + 1) (nodes r), length-nodes r)
+
+  -- its rule stands behind its count
+  pub stands-there : Stands (drop 1 ts) (drop (count r + 1) ts) 0 (count r + 1) r
+  unfolding encode
+  stands-there = record {
+    entries-after = bodies 0 (nodes r) ++ t .after;
+    bodies-after = t .after;
+    entries = ap (drop 1) (t .begins)
+        ∙ append-assoc (starts (length (nodes r) + 1) (nodes r)) (bodies 0 (nodes r)) (t .after)
+        ∙ ap (λ (k : ℕ). starts (k + 1) (nodes r) ++ (bodies 0 (nodes r) ++ t .after)) (length-nodes r);
+    bodies = bodies-there;
+  }

@@ -10,7 +10,7 @@ use lib.Seq.{drop-at}
 use Rattle.rules.specs.Rule.{Junction, Rule, Constant, Join, Not, Literal, Bind}
 use Rattle.rules.specs.Table.{Node, constant-node, join-node, not-node, literal-node, bind-node, count, nodes}
 use Rattle.rules.proofs.Sizes.{words, weight, length-nodes}
-use Rattle.rules.proofs.Trees.{arity, count-unique}
+use Rattle.rules.proofs.Trees.{arity, count-unique, after}
 use Rattle.tables.specs.Checks.{TreeOf}
 use Rattle.tables.specs.declared.check.Tree.{Tree}
 use Rattle.tables.specs.declared.check.Tree.the-variants.{Ends, Broken}
@@ -98,21 +98,26 @@ module _ (j : Junction) (right : ℤ) (ds : List Node) where
   unfolding TreeOf
   left-broken h r f e = let (a, b, k, l) = both j right ds r f e in h a (nodes b ++ f) l
 
+  -- behind the left child's tree, of m nodes, stands the right child of any rule that begins so
+  behind-left : (m q : ℕ) → TreeOf ds (Ends m q) → (r : Rule) (f : List Node) → join-node j right ∷ ds ≡ nodes r ++ f
+      → (right ≡ pos (1 + m)) × (b : Rule) × (drop m ds ≡ nodes b ++ f)
+  behind-left m q h r f e =
+      let (a, b, k, l) = both j right ds r f e in
+      let (c, i, u, w) = after-left ds m q h in
+      let same : count c ≡ count a = count-unique c a (drop m ds) (nodes b ++ f) (sym i ∙ l) in (
+        k ∙ ap (λ (x : ℕ). pos (1 + x)) (sym (u ∙ same)),
+        b,
+        after c a (drop m ds) (nodes b ++ f) same (sym i ∙ l),
+      )
+
   pub wrong-child : (m q : ℕ) → TreeOf ds (Ends m q) → ¬ (right ≡ pos (1 + m)) → TreeOf (join-node j right ∷ ds) Broken
   unfolding TreeOf
-  wrong-child m q h n r f e =
-      let (a, b, k, l) = both j right ds r f e in
-      let (c, i, u, w) = after-left ds m q h in
-      let same : count c ≡ count a = count-unique c a (drop m ds) (nodes b ++ f) (sym i ∙ l) in
-      n (k ∙ ap (λ (x : ℕ). pos (1 + x)) (sym (u ∙ same)))
+  wrong-child m q h n r f e = n (behind-left m q h r f e .0)
 
-  pub right-broken : (m q : ℕ) → TreeOf ds (Ends m q) → TreeOf (drop m ds) Broken → TreeOf (join-node j right ∷ ds) Broken
+  pub right-broken : (m q : ℕ) → TreeOf ds (Ends m q) → TreeOf (drop m ds) Broken
+      → TreeOf (join-node j right ∷ ds) Broken
   unfolding TreeOf
-  right-broken m q h n r f e =
-      let (a, b, k, l) = both j right ds r f e in
-      let (c, i, u, w) = after-left ds m q h in
-      let same : count c ≡ count a = count-unique c a (drop m ds) (nodes b ++ f) (sym i ∙ l) in
-      n b f (Rattle.rules.proofs.Trees.after c a (drop m ds) (nodes b ++ f) same (sym i ∙ l))
+  right-broken m q h n r f e = let (child, b, behind) = behind-left m q h r f e in n b f behind
 
   pub two-end : (m q k w : ℕ) → TreeOf ds (Ends m q) → right ≡ pos (1 + m) → TreeOf (drop m ds) (Ends k w)
       → TreeOf (join-node j right ∷ ds) (Ends (1 + m + k) (2 + q + w))

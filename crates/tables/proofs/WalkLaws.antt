@@ -3,32 +3,30 @@
 use mathlib.Core.Path.{_≡_, sym, _∙_, ap, subst}
 use mathlib.Core.List.{List}
 use Prim.Native.Nat.{ℕ, _+_, _-_, _*_, _<_, _≤_}
+use native.Mathlib.Nat.{add-zero}
 use native.Mathlib.Omega.{arith}
 use lib.IntN.{ℤ, pos}
-use lib.ListN.{length, getD, take, drop, length-drop}
+use lib.ListN.{length, getD, drop, length-drop}
 use lib.Seq.{drop-drop, getD-drop}
 use Rattle.rules.specs.Calls.{signed, words}
-use Rattle.tables.specs.Reads.{widths}
-use Rattle.tables.specs.Checks.{arities, Listed, TreeAt}
+use Rattle.tables.specs.Reads.{widths, arities}
+use Rattle.tables.specs.Checks.{Listed, TreeAt}
 use Rattle.tables.specs.declared.check.Tree.{Tree}
 use Rattle.tables.specs.declared.check.Tree.the-variants.{Ends, Broken}
-use Rattle.tables.proofs.WordLaws.{words-from, words-length}
+use Rattle.tables.proofs.WordLaws.{part, words-from, words-length}
 use Rattle.tables.proofs.DueTrees.{Due, due-further}
 use Rattle.tables.proofs.TreeSteps.{
+  Headed,
   due-only,
   due-right,
   tree-leaf,
   tree-left-broken,
   tree-wrong,
   two-words,
-  listed-first,
+  listed-behind,
   listed-some,
   tree-fits,
 }
-
--- the words from place p on
-abbrev pub part : List ℕ → ℕ → List ℤ
-part l p = words (take (length l - p * 4) (drop (p * 4) l))
 
 pub part-long : (l : List ℕ) (p : ℕ) → length (part l p) ≤ length (words l)
 part-long l p = omega (arith, ap length (words-from l p), length-drop p (words l))
@@ -46,28 +44,26 @@ pub record Turn (l : List ℕ) (n left m w k x c : ℕ) : Type 0 where
 
 -- its kind can be read
 pub first-word : (l : List ℕ) {n left m w : ℕ} → Due (words l) n left m w → m < left → w < length (words l)
-first-word l {n = n} {left = left} {m = m} {w = w} due some =
-    let here = listed-some (drop w (words l)) (n + m) (left - m) (due .listed) (omega arith) in
-    omega (arith, here, length-drop w (words l))
+first-word l {w = w} due some =
+    omega (arith, listed-some (due .listed) (omega arith), length-drop w (words l))
 
 module _ {l : List ℕ} {n left m w k x c : ℕ} (turn : Turn l n left m w k x c) where
-  more : 0 < left - m
-  more = omega (arith, turn .some)
-
-  kind : getD (drop w (words l)) 0 (pos 0) ≡ signed k
-  kind = getD-drop w (words l) 0 (pos 0) ∙ ap (λ (i : ℕ). getD (words l) i (pos 0)) (omega arith) ∙ turn .first
+  head : Headed (drop w (words l)) (n + m) (left - m) k
+  head = record {
+    bodies = turn .due .listed;
+    some = omega (arith, turn .some);
+    kind = getD-drop w (words l) 0 (pos 0) ∙ ap (λ (i : ℕ). getD (words l) i (pos 0)) (add-zero w) ∙ turn .first;
+  }
 
   pub walk-leaf : c ≡ 0 → TreeAt (words l) n left (Ends (m + 1) (w + x))
   walk-leaf z =
       subst (λ (y : ℕ). TreeAt (words l) n left (Ends (m + 1) (w + y))) (sym (turn .wide))
-      (turn .due .verdict (Ends 1 (getD widths k 0))
-      (tree-leaf (drop w (words l)) (n + m) (left - m) k kind more (sym (turn .children) ∙ z)))
+      (turn .due .verdict (Ends 1 (getD widths k 0)) (tree-leaf head (sym (turn .children) ∙ z)))
 
   pub walk-only : c ≡ 1 → Due (words l) n left (m + 1) (w + x)
   walk-only z =
       subst (λ (y : ℕ). Due (words l) n left (m + 1) (w + y)) (sym (turn .wide))
-      (due-further (turn .due)
-      (due-only (drop w (words l)) (n + m) (left - m) k kind more (sym (turn .children) ∙ z) (turn .due .listed)))
+      (due-further (turn .due) (due-only head (sym (turn .children) ∙ z)))
 
   -- the words behind this node
   behind : part l (w + x) ≡ drop (getD widths k 0) (drop w (words l))
@@ -77,8 +73,8 @@ module _ {l : List ℕ} {n left m w k x c : ℕ} (turn : Turn l n left m w k x c
 
   below : Listed (drop (getD widths k 0) (drop w (words l))) (n + m + 1) (left - m - 1) × (w + x ≤ length (words l))
   below =
-      let (f, inside) = listed-first (drop w (words l)) (n + m) (left - m) k kind more (turn .due .listed) in
-      (f, omega (arith, inside, turn .wide, turn .due .inside, length-drop w (words l)))
+      let (listed, inside) = listed-behind head in
+      (listed, omega (arith, inside, turn .wide, turn .due .inside, length-drop w (words l)))
 
   pub behind-place : w + x ≤ 16384
   behind-place = omega (arith, below .1, turn .most)
@@ -118,19 +114,14 @@ module _ {l : List ℕ} {n left m w k x c : ℕ} (pair : Pair l n left m w k x c
 
   pub second-word : w + 1 < length (words l)
   second-word =
-      let turn = pair .turn in
-      let here = two-words (drop w (words l)) (n + m) (left - m) k (kind turn) (more turn) some-child more-children
-      (turn .due .listed) in
-      omega (arith, here, length-drop w (words l))
+      omega (arith, two-words (head (pair .turn)) some-child more-children, length-drop w (words l))
 
   pub walk-broken : {v : Tree} → v ≡ Broken → TreeAt (part l (w + x)) (n + m + 1) (left - m - 1) v
       → TreeAt (words l) n left v
   walk-broken e t =
       let turn = pair .turn in
       subst (TreeAt (words l) n left) (sym e)
-      (turn .due .verdict Broken
-      (tree-left-broken (drop w (words l)) (n + m) (left - m) k (kind turn) (more turn) some-child more-children
-      (found turn e t)))
+      (turn .due .verdict Broken (tree-left-broken (head turn) some-child more-children (found turn e t)))
 
 -- ---- the left child's tree is found, of i nodes and q words, and the right child's number is u
 
@@ -154,8 +145,7 @@ module _ {l : List ℕ} {n left m w k x c i q u : ℕ} (left-tree : LeftTree l n
   -- the right child is due within the bodies
   pub left-fits : (m + (1 + i) ≤ left) × (w + (x + q) ≤ length (words l))
   left-fits =
-      let bs = drop (getD widths k 0) (drop w (words l)) in
-      let (few, inside) = tree-fits bs (n + m + 1) (left - m - 1) i q (below turned .0) (left-tree .tree) in
+      let (few, inside) = tree-fits i q (below turned .0) (left-tree .tree) in
       let long = length-drop (getD widths k 0) (drop w (words l)) in (
         omega (arith, few, turned .some),
         omega (arith, inside, below turned .1, turned .wide, long, length-drop w (words l)),
@@ -164,13 +154,13 @@ module _ {l : List ℕ} {n left m w k x c i q u : ℕ} (left-tree : LeftTree l n
   pub walk-wrong : ¬ (u ≡ n + m + 1 + i) → TreeAt (words l) n left Broken
   walk-wrong f =
       turned .due .verdict Broken
-      (tree-wrong (drop w (words l)) (n + m) (left - m) k (kind turned) (more turned) (some-child (left-tree .pair))
-      (more-children (left-tree .pair)) i q u (left-tree .tree) number f)
+      (tree-wrong (head turned) (some-child (left-tree .pair)) (more-children (left-tree .pair)) i q u
+      (left-tree .tree) number f)
 
   pub walk-right : u ≡ n + m + 1 + i → Due (words l) n left (m + (1 + i)) (w + (x + q))
   walk-right e =
       let low : u < 2147483648 = omega (arith, e, left-fits .0, turned .low) in
       subst (λ (y : ℕ). Due (words l) n left (m + (1 + i)) (w + (y + q))) (sym (turned .wide))
       (due-further (turned .due)
-      (due-right (drop w (words l)) (n + m) (left - m) k (kind turned) (more turned) (some-child (left-tree .pair))
-      (more-children (left-tree .pair)) i q u (left-tree .tree) number e low (turned .due .listed)))
+      (due-right (head turned) (some-child (left-tree .pair)) (more-children (left-tree .pair)) i q u
+      (left-tree .tree) number e low))

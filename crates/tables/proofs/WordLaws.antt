@@ -10,7 +10,7 @@ use borrow.Author.Tests.{lt-ltb, le-ltb, ltb-true, ltb-false}
 use lib.Dec.{ltb}
 use lib.IntN.{ℤ, pos, negsuc}
 use lib.ListN.{length, getD, take, drop, set, replicate}
-use lib.Seq.{sets, take-nil, drop-nil, take-set-le, drop-set-lt}
+use lib.Seq.{sets, take-nil, drop-nil}
 use mir.Syntax.{w32}
 use mir.Val.{SFits}
 use Rattle.rules.specs.Calls.{signed, bits, words, bytes-of}
@@ -69,6 +69,9 @@ words-length (a ∷ b ∷ []) = refl
 words-length (a ∷ b ∷ c ∷ []) = refl
 words-length (a ∷ b ∷ c ∷ d ∷ l) = omega (arith, words-length l)
 
+pub same-words : (l m : List ℕ) → length l ≡ length m → length (words l) ≡ length (words m)
+same-words l m e = omega (arith, words-length l, words-length m, e)
+
 -- past the first word
 past : (i k : ℕ) → suc i * 4 + k ≡ suc (suc (suc (suc (i * 4 + k))))
 past i k = omega arith
@@ -125,21 +128,6 @@ words-put l m i u v f h e p =
     let q = p ∙ ap (λ (u : ℕ). sets l (i * 4) (bytes-of-bits u)) e in
     (ap words q ∙ words-set l i v f h, q)
 
--- it leaves the bytes before word i and those after it (that their number stays is lib.Seq's `length-sets`)
-pub put-before : (l : List ℕ) (i k : ℕ) (v : ℤ) → k ≤ i * 4
-    → take k (sets l (i * 4) (bytes-of (v ∷ []))) ≡ take k l
-unfolding bytes-of
-put-before l i k v h =
-    take-set-le k _ _ _ (omega arith) ∙ take-set-le k _ _ _ (omega arith) ∙ take-set-le k _ _ _ (omega arith)
-    ∙ take-set-le k _ _ _ h
-
-pub put-after : (l : List ℕ) (i k : ℕ) (v : ℤ) → i * 4 + 4 ≤ k
-    → drop k (sets l (i * 4) (bytes-of (v ∷ []))) ≡ drop k l
-unfolding bytes-of
-put-after l i k v h =
-    drop-set-lt k _ _ _ (omega arith) ∙ drop-set-lt k _ _ _ (omega arith) ∙ drop-set-lt k _ _ _ (omega arith)
-    ∙ drop-set-lt k _ _ _ (omega arith)
-
 -- ---- parts
 
 pub words-drop : (l : List ℕ) (k : ℕ) → words (drop (k * 4) l) ≡ drop k (words l)
@@ -151,9 +139,12 @@ words-drop (a ∷ b ∷ []) (suc k) = rw (next k, drop-nil)
 words-drop (a ∷ b ∷ c ∷ []) (suc k) = rw (next k, drop-nil)
 words-drop (a ∷ b ∷ c ∷ d ∷ l) (suc k) = rw (next k) (words-drop l k)
 
--- the bytes from word k on, as `&l[k * 4..]` lends them
-pub words-from : (l : List ℕ) (k : ℕ) → words (take (length l - k * 4) (drop (k * 4) l)) ≡ drop k (words l)
-words-from l k = ap words (part-to-end l (k * 4)) ∙ words-drop l k
+-- the words from place p on, of the bytes that `&l[p * 4..]` lends
+abbrev pub part : List ℕ → ℕ → List ℤ
+part l p = words (take (length l - p * 4) (drop (p * 4) l))
+
+pub words-from : (l : List ℕ) (p : ℕ) → part l p ≡ drop p (words l)
+words-from l p = ap words (part-to-end l (p * 4)) ∙ words-drop l p
 
 pub words-take : (l : List ℕ) (k : ℕ) → words (take (k * 4) l) ≡ take k (words l)
 unfolding words
@@ -164,6 +155,13 @@ words-take (a ∷ b ∷ []) (suc k) = rw (next k, take-nil)
 words-take (a ∷ b ∷ c ∷ []) (suc k) = rw (next k, take-nil)
 words-take (a ∷ b ∷ c ∷ d ∷ l) (suc k) =
     rw (next k) (ap (λ (ws : List ℤ). signed (a + 256 * (b + 256 * (c + 256 * d))) ∷ ws) (words-take l k))
+
+-- those from place p to p + w, as `&l[p * 4..(p + w) * 4]` lends them
+pub words-between : (l : List ℕ) (p w : ℕ)
+    → words (take ((p + w) * 4 - p * 4) (drop (p * 4) l)) ≡ take w (drop p (words l))
+words-between l p w =
+    let long : (p + w) * 4 - p * 4 ≡ w * 4 = omega arith in
+    ap (λ (n : ℕ). words (take n (drop (p * 4) l))) long ∙ words-take (drop (p * 4) l) w ∙ ap (take w) (words-drop l p)
 
 -- ---- zeros, and the range of a word
 

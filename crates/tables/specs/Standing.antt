@@ -5,8 +5,9 @@ use mathlib.Core.List.{List, _++_}
 use Prim.Native.Nat.{ℕ, _+_, _*_, _≤_}
 use lib.IntN.{ℤ}
 use lib.ListN.{length}
-use Rattle.rules.specs.Rule.{Junction, Rule, Join}
-use Rattle.rules.specs.Table.{Node, most-words, count, nodes, starts, bodies, encode}
+use Rattle.rules.specs.Sum.{Sum}
+use Rattle.rules.specs.Rule.{Junction, Test, Rule, Join}
+use Rattle.rules.specs.Table.{Node, literal-node, most-words, body, count, nodes, starts, bodies, encode}
 use Rattle.rules.specs.Laws.{WellFormed}
 use Rattle.rules.proofs.Sizes.{weight}
 use Rattle.tables.specs.declared.sides.Side.{Side}
@@ -33,6 +34,12 @@ pub record Few (es bs : List ℤ) (n p : ℕ) : Type 0 where
   pub few-nodes : n + length es ≤ most-words
   pub few-words : p + length bs ≤ most-words
 
+-- the rule a of a table stands there
+pub record RuleAt (es bs : List ℤ) (n p : ℕ) (a : Rule) : Type 0 where
+  pub stands : Stands es bs n p a
+  pub few : Few es bs n p
+  pub formed : WellFormed a
+
 -- ---- the right side of an and or or
 
 pub record StandingJoin (es bs : List ℤ) (n p : ℕ) : Type 0 where
@@ -49,7 +56,11 @@ pub record RightOf (n p : ℕ) (left : Rule) (s : Side) : Type 0 where
   pub entries-are : s .entries ≡ (1 + count left) * 4
   pub bodies-are : s .bodies ≡ (2 + weight left) * 4
 
--- ---- a rule's bodies, and its table, at the start of some words
+-- ---- at the start of some words: a literal's body, a rule's bodies, its table
+
+pub record BodyAt (bs : List ℤ) (n : ℕ) (t : Test) (s : Sum) : Type 0 where
+  pub after : List ℤ
+  pub begins : bs ≡ body n (literal-node t s) ++ after
 
 pub record Bodied (bs : List ℤ) (n : ℕ) (r : Rule) : Type 0 where
   pub after : List ℤ

@@ -3,7 +3,8 @@ ghost use mathlib.Core.Path.{_≡_};
 ghost use Prim.Native.Nat.{_+_, _<_, _≤_};
 ghost use lib.ListN.{length, getD};
 ghost use Rattle.rules.specs.Calls.{words, rule-of};
-ghost use Rattle.tables.specs.Checks.{arities, Listed, TreeAt, Judged, rest, Verdict, refusal as refusal_of};
+ghost use Rattle.tables.specs.Reads.{arities};
+ghost use Rattle.tables.specs.Checks.{Listed, TreeAt, Judged, rest, Verdict};
 use crate::reading;
 use crate::reading::Reading;
 use crate::words;
@@ -20,20 +21,10 @@ pub enum Tree {
     Broken,
 }
 
-// The refusal of a reading, as the verdict of a check.
-fn refusal(r: Reading) -> Checked
-    ensures { λ v. ⌜ v ≡ refusal_of r ⌝ }
-{
-    match r {
-        Reading::Whole(_, next) => Checked::Table(next),
-        Reading::Refused(k) => Checked::Not(k),
-    }
-}
-
 // "per node its entry (2) and its body (3); then the table's end (2)"
 fn nodes(t: &[u8], n: usize) -> Checked
     requires { ⌜ (n + 1 ≤ length (words (now t))) × (length (words (now t)) ≤ 16384) ⌝ }
-    ensures { λ r. ⌜ Judged (rest (words (now (t .entry))) n 0 (n + 1)) r ⌝ }
+    ensures { λ r. ⌜ Judged length (rest (words (now (t .entry))) n 0 (n + 1)) r ⌝ }
 {
     let mut i: usize = 0;
     let mut place = n + 1;
@@ -44,7 +35,7 @@ fn nodes(t: &[u8], n: usize) -> Checked
         let from = place * 4;
         let reading = reading::read_node(&t[from..], place);
         let Reading::Whole(_, next) = reading else {
-            return refusal(reading);
+            return Checked::Not(reading::number(reading));
         };
         place = next;
         i += 1;

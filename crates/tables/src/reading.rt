@@ -5,7 +5,7 @@ ghost use lib.ListN.{length, getD};
 ghost use lib.Seq.{slice};
 ghost use Rattle.rules.specs.Sum.{limit, all-within};
 ghost use Rattle.rules.specs.Calls.{words};
-ghost use Rattle.tables.specs.Reads.{SumAt, NumberAt, DividedAt, FieldsAt, NodeAt, widths, forms};
+ghost use Rattle.tables.specs.Reads.{SumAt, NumberAt, DividedAt, FieldsAt, NodeAt, answer-number, widths, forms};
 use crate::words;
 
 // "Reading a table answers a node with the next place, or a refusal".
@@ -16,6 +16,16 @@ pub enum Reading {
 
 pub struct Node {
     pub kind: usize,
+}
+
+// The answer's number: that of a refusal, else 0.
+pub fn number(r: Reading) -> u32
+    ensures { λ n. ⌜ n ≡ answer-number r ⌝ }
+{
+    match r {
+        Reading::Whole(_, _) => 0,
+        Reading::Refused(n) => n,
+    }
 }
 
 // Whether the words from place `from` up to place `to` lie within ±2,147,483,647: in 32 bits one number alone does not.

@@ -3,6 +3,7 @@
 use Prim.Native.Nat.{ℕ, _+_}
 use mathlib.Core.List.{List}
 use Rattle.tables.proofs.VerdictLaws.{
+  Sized,
   NodesRead,
   nodes-read,
   nodes-listed,
@@ -14,7 +15,6 @@ use Rattle.tables.proofs.VerdictLaws.{
   verdict-left,
   verdict-rule,
 }
-use Rattle.tables.proofs.CheckLaws.{Sized}
 use Rattle.tables.proofs.WalkLaws.{part-long}
 use Rattle.tables.proofs.WordLaws.{words-length}
 use native.Mathlib.Omega.{arith}
@@ -109,7 +109,8 @@ enum-told-2 c = search needs
 
 returns-6 : tie.Need-returns-6
 returns-6 c =
-    verdict-nodes _ _ _ (sized (c .before .before .before)) (c .enum-told2 .given .1) (c .before .before .nodes .ensures)
+    let read = c .before .before in
+    verdict-nodes _ _ _ (sized (read .before)) (c .enum-told2 .given .1) (read .nodes .ensures)
 
 add-from : tie.Need-add-from
 add-from c = let s = nodes-of c .sized in omega (arith, s .inside, s .most)

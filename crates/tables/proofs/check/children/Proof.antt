@@ -3,8 +3,8 @@
 use mathlib.Core.Path.{_≡_, refl}
 use Prim.Native.Nat.{ℕ}
 use lib.ListN.{getD}
-use Rattle.tables.specs.Checks.{arities}
-use Rattle.tables.proofs.KindLaws.{of-half, childless}
+use Rattle.tables.specs.Reads.{arities}
+use Rattle.tables.proofs.Lookups.{of-half, childless}
 use borrow.Author.Needs.{needs}
 use Rattle.tables.proofs.check.children.Statement.{statement}
 use Rattle.tables.proofs.check.children.Tie as tie

@@ -1,15 +1,19 @@
 -- `check::nodes` meets its contract: the verdict on what is left is the verdict on the whole.
 -- Assumes nothing.
 use mathlib.Core.Path.{sym, _∙_, ap, subst}
-use Prim.Native.Nat.{_+_, _-_, _≤_}
+use Prim.Native.Nat.{_-_, _≤_}
 use native.Mathlib.Omega.{arith}
 use lib.ListN.{length}
 use borrow.Author.Needs.{needs}
 use Rattle.rules.specs.Calls.{words}
-use Rattle.tables.specs.Checks.{Judged, rest, refusal}
-use Rattle.tables.proofs.WordLaws.{words-length, words-from}
-use Rattle.tables.proofs.CheckLaws.{
-  Carries,
+use Rattle.tables.specs.Reads.{answer-number}
+use Rattle.tables.specs.Checks.{Judged}
+use Rattle.tables.specs.declared.check.Checked.the-variants.{Not}
+use Rattle.tables.proofs.WordLaws.{words-length, part, words-from}
+use Rattle.tables.proofs.NodeSteps.{
+  NodeDue,
+  EntryRead,
+  BodyRead,
   carries-itself,
   still-inside,
   entry-refused,
@@ -18,30 +22,60 @@ use Rattle.tables.proofs.CheckLaws.{
   all-passed,
   end-refused,
 }
-use Rattle.tables.proofs.KindLaws.{node-whole, node-refused}
+use Rattle.tables.proofs.ReadingLaws.{node-whole, node-refused}
 use Rattle.tables.proofs.check.nodes.Statement.{statement}
 use Rattle.tables.proofs.check.nodes.Tie as tie
-use Rattle.tables.proofs.check.nodes.Reads as reads
-use Rattle.tables.proofs.check.nodes.Lts as lts
-use Rattle.tables.proofs.check.refusal.Reads as refusal-reads
-use Rattle.tables.proofs.reading.read_node.Reads as read-node-reads
-use Rattle.tables.proofs.words.count.Reads as count-reads
-use Rattle.tables.proofs.words.natural.Reads as natural-reads
 
 abbrev Inv-loop : tie.InvT-loop
 Inv-loop t n i₀ place₀ i place =
-    (i ≤ n) × (place ≤ length (words t)) × Carries (rest (words t) n i place) (rest (words t) n 0 (n + 1))
+    (i ≤ n) × (place ≤ length (words t)) × NodeDue (words t) n i place
 
 abbrev μ-loop : tie.MeasureT-loop
 μ-loop t n i₀ place₀ i place = n - i
+
+-- the ways back: from the entry to the loop, and to the start; from the node to its entry
+abbrev turn : tie.After-natural Inv-loop μ-loop → tie.At-loop Inv-loop μ-loop
+turn c = c .before .before
+
+abbrev start : tie.At-loop Inv-loop μ-loop → tie.Start Inv-loop μ-loop
+start c = c .before .before
+
+abbrev entry : tie.After-read-node Inv-loop μ-loop → tie.After-natural Inv-loop μ-loop
+entry c = c .before .before .before
+
+-- the entry is read
+entry-read : (c : tie.After-natural Inv-loop μ-loop)
+    → let here = turn c in
+    let a = start here .args in
+    EntryRead (words (a .t .now)) (a .n) (here .loop .i) (here .loop .place) (c .natural .result)
+entry-read c = record {
+  node = turn c .loop .inv .2;
+  some = c .before .loop-test .taken;
+  entry = c .natural .ensures .1;
+}
+
+-- and then the node
+body-read : (c : tie.After-read-node Inv-loop μ-loop)
+    → let here = turn (entry c) in
+    let a = start here .args in
+    BodyRead (words (a .t .now)) (a .n) (here .loop .i) (here .loop .place) (entry c .natural .result)
+    (part (a .t .now) (here .loop .place))
+body-read c =
+    let here = turn (entry c) in
+    record {
+      read = entry-read (entry c);
+      same = c .before .before .if1 .left;
+      low = omega (arith, start here .pre .1, here .loop .inv .1);
+      at = words-from (start here .args .t .now) (here .loop .place);
+    }
 
 add-place : tie.Need-add-place Inv-loop μ-loop
 add-place c = omega (arith, words-length (c .before .args .t .now))
 
 loop-holds : tie.Need-loop-holds Inv-loop μ-loop
 loop-holds c =
-    let a = c .before .args in
-    (omega arith, c .before .pre .0, carries-itself (rest (words (a .t .now)) (a .n) 0 (a .n + 1)))
+    let pre = c .before .pre in
+    (omega arith, pre .0, record { inside = omega (arith, pre .0); carries = carries-itself _ })
 
 add-natural : tie.Need-add-natural Inv-loop μ-loop
 add-natural c =
@@ -52,29 +86,24 @@ natural-requires : tie.Need-natural-requires Inv-loop μ-loop
 natural-requires c κs = omega (arith, c .before .before .before .pre .0, c .before .loop .inv .0)
 
 returns : tie.Need-returns Inv-loop μ-loop
-returns c =
-    let found = c .before .natural in
-    let turn = c .before .before .before in
-    let pre = turn .before .before .pre in
-    entry-refused _ _ _ _ _ (turn .loop .inv .2) (found .result) (omega arith) (omega (arith, pre .0))
-    (found .ensures .1) (omega arith)
+returns c = entry-refused (entry-read (c .before)) (c .if1 .taken)
 
 mul-from : tie.Need-mul-from Inv-loop μ-loop
 mul-from c =
-    let start = c .before .before .before .before .before in
-    omega (arith, words-length (start .args .t .now), start .pre .1)
+    let begun = start (turn (c .before)) in
+    omega (arith, words-length (begun .args .t .now), begun .pre .1)
 
 sub-read-node : tie.Need-sub-read-node Inv-loop μ-loop
-sub-read-node c = omega (arith, words-length (c .before .before .before .before .before .args .t .now))
+sub-read-node c = omega (arith, words-length (start (turn (c .before)) .args .t .now))
 
 part-read-node-start : tie.Need-part-read-node-start Inv-loop μ-loop
-part-read-node-start c = omega (arith, words-length (c .before .before .before .before .before .args .t .now))
+part-read-node-start c = omega (arith, words-length (start (turn (c .before)) .args .t .now))
 
 part-read-node-end : tie.Need-part-read-node-end Inv-loop μ-loop
 part-read-node-end c = search needs
 
 read-node-requires : tie.Need-read-node-requires Inv-loop μ-loop
-read-node-requires c κs = omega (arith, c .before .before .before .before .before .before .pre .1)
+read-node-requires c κs = omega (arith, start (turn (c .before .before)) .pre .1)
 
 enum-known-reading : tie.Need-enum-known-reading Inv-loop μ-loop
 enum-known-reading c = search needs
@@ -82,22 +111,15 @@ enum-known-reading c = search needs
 enum-told : tie.Need-enum-told Inv-loop μ-loop
 enum-told c = search needs
 
-refusal-requires : tie.Need-refusal-requires Inv-loop μ-loop
-refusal-requires c κs = search needs
+number-requires : tie.Need-number-requires Inv-loop μ-loop
+number-requires c κs = search needs
 
 returns-2 : tie.Need-returns-2 Inv-loop μ-loop
 returns-2 c =
     let told = c .before .enum-told .given .1 in
     let read = c .before .before .before in
-    let entry = read .before .before in
-    let found = entry .before .natural in
-    let turn = entry .before .before .before in
-    let start = turn .before .before in
-    subst (Judged _) (sym (c .refusal .ensures ∙ ap refusal told))
-    (body-refused _ _ _ _ _ (turn .loop .inv .2) (found .result) _ _ (entry .before .before .loop-test .taken)
-    (omega (arith, start .pre .0)) (found .ensures .1) (entry .if1 .left)
-    (omega (arith, start .pre .1, turn .loop .inv .1)) (words-from (start .args .t .now) (turn .loop .place))
-    (node-refused _ _ told (read .read-node .ensures) _))
+    subst (Judged length _) (sym (ap Not (c .number .ensures ∙ ap answer-number told)))
+    (body-refused (body-read read) _ (node-refused _ _ told (read .read-node .ensures) _))
 
 add-i : tie.Need-add-i Inv-loop μ-loop
 add-i c = omega arith
@@ -108,32 +130,22 @@ loop-less c = omega arith
 loop-again : tie.Need-loop-again Inv-loop μ-loop
 loop-again c =
     let read = c .before .before .before in
-    let entry = read .before .before in
-    let found = entry .before .natural in
-    let turn = entry .before .before .before in
-    let start = turn .before .before in
-    let it = node-whole _ _ (c .before .reading .given .1) (read .read-node .ensures) (turn .loop .i) in
-    let at = words-from (start .args .t .now) (turn .loop .place) in (
-      omega arith,
-      still-inside (words (start .args .t .now)) (turn .loop .place) (turn .loop .inv .1) at it,
-      node-passed _ _ _ _ _ (turn .loop .inv .2) (found .result) _ _ _ (entry .before .before .loop-test .taken)
-          (omega (arith, start .pre .0)) (found .ensures .1) (entry .if1 .left)
-          (omega (arith, start .pre .1, turn .loop .inv .1)) at it,
-    )
+    let inv = turn (entry read) .loop .inv in
+    let it = node-whole _ _ (c .before .reading .given .1) (read .read-node .ensures) (turn (entry read) .loop .i) in
+    (omega arith, still-inside (body-read read) (inv .1) it, node-passed (body-read read) it)
 
 count-requires : tie.Need-count-requires Inv-loop μ-loop
 count-requires c κs = search needs
 
 returns-3 : tie.Need-returns-3 Inv-loop μ-loop
 returns-3 c =
-    let loop = c .before .before .before .loop in
-    let short = c .if2 .taken in
-    end-refused _ _ _ _ _ (loop .inv .2) (omega arith) (loop .inv .1) (omega (arith, short, c .before .count .ensures))
+    let inv = c .before .before .before .loop .inv in
+    end-refused (inv .2) (omega arith) (inv .1) (omega (arith, c .if2 .taken, c .before .count .ensures))
 
 returns-4 : tie.Need-returns-4 Inv-loop μ-loop
 returns-4 c =
-    let loop = c .before .before .before .loop in
-    all-passed _ _ _ _ _ (loop .inv .2) (omega arith) (omega (arith, c .if2 .left, c .before .count .ensures))
+    let inv = c .before .before .before .loop .inv in
+    all-passed (inv .2) (omega arith) (omega (arith, c .if2 .left, c .before .count .ensures))
 
 pub nodes-spec : {M : Type 1} → statement M
 nodes-spec =
@@ -153,7 +165,7 @@ nodes-spec =
     read-node-requires
     enum-known-reading
     enum-told
-    refusal-requires
+    number-requires
     returns-2
     add-i
     loop-less

@@ -6,7 +6,7 @@ use Prim.Native.Nat.{ℕ, _≤_}
 use native.Mathlib.Omega.{arith}
 use lib.ListN.{getD}
 use Rattle.tables.specs.Reads.{forms}
-use Rattle.tables.proofs.KindLaws.{found, missing, of-half}
+use Rattle.tables.proofs.Lookups.{found, missing, of-half}
 use borrow.Author.Needs.{needs}
 use Rattle.tables.proofs.reading.form.Statement.{statement}
 use Rattle.tables.proofs.reading.form.Tie as tie

@@ -4,7 +4,7 @@ use mathlib.Core.Path.{refl, ap}
 use native.Mathlib.Omega.{arith}
 use borrow.Author.Needs.{needs}
 use lib.Dec.{leb}
-use Rattle.tables.proofs.KindLaws.{of-form}
+use Rattle.tables.proofs.ReadingLaws.{of-form}
 use Rattle.tables.proofs.reading.has_fields.Statement.{statement}
 use Rattle.tables.proofs.reading.has_fields.Tie as tie
 

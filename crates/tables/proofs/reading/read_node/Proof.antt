@@ -1,7 +1,7 @@
 -- `reading::read_node` meets its contract: the fields behind the kind decide, and the kind gives the width.
 -- Assumes nothing.
 use borrow.Author.Needs.{needs}
-use Rattle.tables.proofs.KindLaws.{no-node, refused-node, whole-node}
+use Rattle.tables.proofs.ReadingLaws.{no-node, refused-node, whole-node}
 use Rattle.tables.proofs.reading.read_node.Statement.{statement}
 use Rattle.tables.proofs.reading.read_node.Tie as tie
 
