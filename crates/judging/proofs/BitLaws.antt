@@ -1,15 +1,17 @@
 -- The bits of a number: of and, or, a run of ones, a single one, an opposite, and a number moved up.
 -- Assumes nothing.
 use mathlib.Core.Path.{_≡_, refl, sym, ap, _∙_}
+use mathlib.Core.Bool.{Bool, true, false, not}
 use Prim.Native.Nat.{ℕ, zero, suc, _+_, _-_, _*_, _/_, _%_, _^_, _<_, _≤_, max, min}
 use native.Mathlib.Nat.{mod-lt, one-mul, mul-one, mod-eq-of-lt, pow-succ', div-one, div-div-eq-div-mul}
 use native.Mathlib.Omega.{arith}
 use lib.Dec.{eqb, ltb, leb·suc-suc, eqb·suc-suc, eqb·zero-suc, eqb·suc-zero}
-use lib.Bits.{bitAnd, bitOr, or-shr, or-step, and-shr, and-step, shifted-half, shifted-even}
+use lib.Bits.{bitAnd, bitOr, or-shr, and-shr, and-step, shifted-half, shifted-even}
 use lib.Pow.{pow-lt, pow-pos, field, mod-mod-pow}
 use borrow.Author.Tests.{lt-ltb, le-ltb}
-use Rattle.judging.specs.Judging.{bit}
-use Rattle.judging.specs.Masks.{flag, Placed}
+use Rattle.tables.proofs.SettingLaws.{low-or}
+use Rattle.judging.specs.Judging.{bit, flag}
+use Rattle.judging.specs.Masks.{Mask, Placed}
 
 pub bit-first : (m : ℕ) → bit m 0 ≡ m % 2
 bit-first m = ap (λ (x : ℕ). x % 2) (div-one m)
@@ -17,9 +19,6 @@ bit-first m = ap (λ (x : ℕ). x % 2) (div-one m)
 pub bit-next : (m k : ℕ) → bit m (suc k) ≡ bit (m / 2) k
 bit-next m k =
     ap (λ (x : ℕ). m / x % 2) (pow-succ' 2 k) ∙ ap (λ (x : ℕ). x % 2) (sym (div-div-eq-div-mul m 2 (2 ^ k)))
-
-pub bit-small : (m k : ℕ) → bit m k < 2
-bit-small m k = mod-lt (m / 2 ^ k) (omega arith)
 
 pub bit-none : (k : ℕ) → bit 0 k ≡ 0
 bit-none zero = refl
@@ -29,14 +28,6 @@ bit-none (suc k) = bit-next 0 k ∙ bit-none k
 
 lowest : (x y : ℕ) → y < 2 → (x * 2 + y) % 2 ≡ y
 lowest x y h = omega arith
-
-low-or : (a b : ℕ) → bitOr a b % 2 ≡ max (a % 2) (b % 2)
-low-or a b =
-    rw (or-step a b) (lowest (bitOr (a / 2) (b / 2)) (max (a % 2) (b % 2))
-    (bound (a % 2) (b % 2) (mod-lt a (omega arith)) (mod-lt b (omega arith))))
-  where
-    bound : (x y : ℕ) → x < 2 → y < 2 → max x y < 2
-    bound x y h k = omega arith
 
 low-and : (a b : ℕ) → bitAnd a b % 2 ≡ min (a % 2) (b % 2)
 low-and a b =
@@ -81,6 +72,15 @@ bit-turned (suc n) m (suc k) h l =
 
 pub bit-opposite : (m k : ℕ) → m < 2 ^ 64 → k < 64 → bit (18446744073709551615 - m) k ≡ 1 - bit m k
 bit-opposite m k h l = bit-turned 64 m k h l
+
+-- where t passes in m, it fails in the opposite of m
+pub opposite-is : (m r : ℕ) (t : ℕ → Bool) → Mask m t → ((k : ℕ) → k < 64 → bit r k ≡ 1 - bit m k)
+    → Mask r (λ k. not (t k))
+opposite-is m r t mask opposite k h = opposite k h ∙ ap (λ (b : ℕ). 1 - b) (mask k h) ∙ turned (t k)
+  where
+    turned : (b : Bool) → 1 - flag b ≡ flag (not b)
+    turned true = refl
+    turned false = refl
 
 pub bit-one : (p k : ℕ) → bit (2 ^ p) k ≡ flag (eqb k p)
 bit-one zero zero = refl

@@ -10,11 +10,11 @@ use lib.IntN.{ℤ, pos, _+ℤ_, _*ℤ_}
 use lib.ListN.{length, getD, drop}
 use lib.Seq.{drop-cons}
 use mir.Syntax.{w64}
-use mir.Val.{SFits, toZ, ofZ}
-use mir.Facts.{toZ-ofZ}
+use mir.Val.{SFits, ofZ}
 use Rattle.whole.specs.Integers.{eqZ}
 use Rattle.rules.specs.Sum.{Sum, all-zero, no-factors}
-use Rattle.literals.proofs.Terms.{listed}
+use Rattle.literals.proofs.Sizes.{by-bits}
+use Rattle.literals.proofs.Sevens.{listed}
 use Rattle.literals.proofs.ChangeLaws.{ne-eqZ}
 use Rattle.judging.specs.Shifts.{Moves}
 
@@ -49,7 +49,7 @@ module _ (ws : List ℤ) (start : ℕ) (f : ℤ) (v : Sum) {i : ℕ} (low : 1 �
 
     pub none-more : ofZ w64 a ≡ 0 → Bare ws start f v (i + 1)
     unfolding Bare
-    none-more e z m = opened (ap (λ (y : ℤ). eqZ y (pos 0)) (sym (toZ-ofZ fits) ∙ ap (toZ w64) e)) z m
+    none-more e z m = opened (ap (λ (y : ℤ). eqZ y (pos 0)) (by-bits fits e)) z m
 
   pub none-left : 7 ≤ i → i ≤ 7 → {g : ℤ} → f ≡ g → (z : Sum) → Moves ws start g v z → false ≡ not (no-factors z)
   unfolding Bare

@@ -1,12 +1,13 @@
 pub mod BitLaws
-pub mod CombLaws
-pub mod ProductLaws
 pub mod MaskLaws
+pub mod MultipleLaws
+pub mod TakenLaws
 pub mod SaidLaws
 pub mod ShiftLaws
 pub mod FactorLaws
-pub mod NotLaws
 pub mod LiteralLaws
 pub mod WalkLaws
-pub mod JudgeLaws
+pub mod NotLaws
+pub mod JoinLaws
 pub mod SpineLaws
+pub mod JudgeLaws

@@ -3,7 +3,7 @@
 use mathlib.Core.Path.{_≡_, refl, sym, ap, ap₂, _∙_, subst}
 use mathlib.Core.Bool.{Bool, true, false, not, cond, _||_}
 use mathlib.Core.List.{List}
-use Prim.Native.Nat.{ℕ, _+_, _-_, _%_, _<_, _≤_}
+use Prim.Native.Nat.{ℕ, _+_, _%_, _<_, _≤_}
 use native.Mathlib.Nat.{mod-lt}
 use native.Mathlib.Omega.{arith}
 use borrow.Author.Tests.{eqb-true, eq-eqb, ne-eqb, not-true, not-false}
@@ -12,7 +12,7 @@ use lib.IntN.{ℤ, pos, negsuc, natAbs, _+ℤ_, _-ℤ_, _*ℤ_}
 use lib.ListN.{length, getD}
 use lib.Signed.{mag, ltZ, natAbs-le}
 use mir.Syntax.{w64}
-use mir.Val.{SFits, toZ, ofZ}
+use mir.Val.{SFits, ofZ}
 use mir.Facts.{toZ-ofZ}
 use Rattle.whole.specs.Divides.{divides}
 use Rattle.whole.proofs.Ring.{rr, r2, ring}
@@ -23,99 +23,60 @@ use Rattle.rules.specs.Steps.{sum-at}
 use Rattle.rules.specs.Calls.{signed}
 use Rattle.rules.proofs.Folding.{Open}
 use Rattle.tables.proofs.Inversion.{test-kind}
-use Rattle.literals.specs.Literal.{start-of, Marked, LiteralAt, SomeLiteral}
-use Rattle.literals.specs.Changes.{becomes, Fair, changed-sum, changed-test, Settles}
+use Rattle.literals.specs.Literal.{start-of, Marked, LiteralAt}
+use Rattle.literals.specs.Changes.{becomes, InRange, Fair, changed-sum, changed-test, Settles}
 use Rattle.literals.specs.declared.change.Change.{Change}
 use Rattle.literals.specs.declared.change.Settled.{Settled}
 use Rattle.literals.specs.declared.change.Settled.the-variants.{Yes, No}
-use Rattle.literals.proofs.Sizes.{read, again}
+use Rattle.literals.proofs.Sizes.{read, again, by-bits}
+use Rattle.literals.proofs.Tests.{positive-is, divided-is, undivided-is}
 use Rattle.literals.proofs.Literals.{literal-word, literal-start}
 use Rattle.literals.proofs.ChangeLaws.{factor-is, kept}
-use Rattle.judging.specs.Judging.{bit, Says, put-into}
-use Rattle.judging.specs.Masks.{flag, Known}
+use Rattle.judging.specs.Judging.{bit, flag, Says, put-into}
+use Rattle.judging.specs.Masks.{Known}
 use Rattle.judging.specs.Shifts.{less, Shifted, Reach, Moves, SomeMoved}
 use Rattle.judging.proofs.SaidLaws.{says-value, says-open}
 use Rattle.judging.proofs.ShiftLaws.{factor-moved, number-moved, moved-seven}
 
 -- ---- the test at c + f·i
 
-zero-bits : {f : ℤ} → SFits w64 f → ofZ w64 f ≡ 0 → f ≡ pos 0
-zero-bits h e = sym (toZ-ofZ h) ∙ ap (toZ w64) e
+still : (c i : ℤ) → c ≡ c +ℤ pos 0 *ℤ i
+still = r2 _ (simp rr (ring refl))
+
+up : (c i : ℤ) → c +ℤ i ≡ c +ℤ pos 1 *ℤ i
+up = r2 _ (simp rr (ring refl))
+
+down : (c i : ℤ) → c -ℤ i ≡ c +ℤ negsuc 0 *ℤ i
+down = r2 _ (simp rr (ring refl))
 
 module _ {c f : ℤ} (fc : SFits w64 c) (ff : SFits w64 f) (t : Test) (i : ℕ) where
-  -- f is 0
+  -- where f is g, and c is read from its bits
+  with-factor : {g z : ℤ} → z ≡ read c +ℤ g *ℤ pos i → f ≡ g → passes t z ≡ passes t (c +ℤ f *ℤ pos i)
+  with-factor at e = ap (passes t) (at ∙ ap₂ (λ (y g : ℤ). y +ℤ g *ℤ pos i) (toZ-ofZ fc) (sym e))
+
   pub passes-constant : ofZ w64 f ≡ 0 → {b : Bool} → b ≡ passes t (read c) → flag b ≡ flag (passes t (c +ℤ f *ℤ pos i))
-  passes-constant e {b} h =
-      ap flag (h ∙ ap (passes t) (toZ-ofZ fc ∙ law c (pos i) ∙ ap (λ (f : ℤ). c +ℤ f *ℤ pos i) (sym (zero-bits ff e))))
-    where
-      law : (c i : ℤ) → c ≡ c +ℤ pos 0 *ℤ i
-      law = r2 _ (simp rr (ring refl))
+  passes-constant e h = ap flag (h ∙ with-factor (still (read c) (pos i)) (by-bits ff e))
 
-  -- as the machine reads the two
+  -- one by one
   pub passes-again : flag (passes t (read c +ℤ read f *ℤ pos i)) ≡ flag (passes t (c +ℤ f *ℤ pos i))
-  passes-again = ap₂ (λ (y z : ℤ). flag (passes t (y +ℤ z *ℤ pos i))) (toZ-ofZ fc) (toZ-ofZ ff)
-
-  up : f ≡ pos 1 → read c +ℤ pos i ≡ c +ℤ f *ℤ pos i
-  up e = ap (λ (z : ℤ). z +ℤ pos i) (toZ-ofZ fc) ∙ law c (pos i) ∙ ap (λ (f : ℤ). c +ℤ f *ℤ pos i) (sym e)
-    where
-      law : (c i : ℤ) → c +ℤ i ≡ c +ℤ pos 1 *ℤ i
-      law = r2 _ (simp rr (ring refl))
-
-  down : f ≡ negsuc 0 → read c -ℤ pos i ≡ c +ℤ f *ℤ pos i
-  down e = ap (λ (z : ℤ). z -ℤ pos i) (toZ-ofZ fc) ∙ law c (pos i) ∙ ap (λ (f : ℤ). c +ℤ f *ℤ pos i) (sym e)
-    where
-      law : (c i : ℤ) → c -ℤ i ≡ c +ℤ negsuc 0 *ℤ i
-      law = r2 _ (simp rr (ring refl))
+  passes-again = ap flag (with-factor refl (sym (toZ-ofZ ff)))
 
   module _ {kind k : ℕ} (m : Marked kind k t) where
-    is-positive : kind ≡ 5 → (z : ℤ) → ltZ (pos 0) z ≡ passes t z
-    is-positive e z = by t m
-      where
-        by : (t : Test) → Marked kind k t → ltZ (pos 0) z ≡ passes t z
-        by positive m = refl
-        by (divisible true d) m = absurd (omega (arith, m .same-kind))
-        by (divisible false d) m = absurd (omega (arith, m .same-kind))
-        by is-zero m = absurd (omega (arith, m .same-kind))
-
-    is-divided : kind ≡ 6 → (z : ℤ) → divides k z ≡ passes t z
-    is-divided e z = by t m
-      where
-        by : (t : Test) → Marked kind k t → divides k z ≡ passes t z
-        by positive m = absurd (omega (arith, m .same-kind))
-        by (divisible true d) m = ap (λ (n : ℕ). divides n z) (m .same-divisor)
-        by (divisible false d) m = absurd (omega (arith, m .same-kind))
-        by is-zero m = absurd (omega (arith, m .same-kind))
-
-    is-undivided : kind ≡ 7 → (z : ℤ) → not (divides k z) ≡ passes t z
-    is-undivided e z = by t m
-      where
-        by : (t : Test) → Marked kind k t → not (divides k z) ≡ passes t z
-        by positive m = absurd (omega (arith, m .same-kind))
-        by (divisible true d) m = absurd (omega (arith, m .same-kind))
-        by (divisible false d) m = ap (λ (n : ℕ). not (divides n z)) (m .same-divisor)
-        by is-zero m = absurd (omega (arith, m .same-kind))
-
     pub passes-rising : kind ≡ 5 → f ≡ pos 1
         → flag (ltZ (pos 0) (read c +ℤ pos i)) ≡ flag (passes t (c +ℤ f *ℤ pos i))
-    passes-rising e one = ap flag (is-positive e (read c +ℤ pos i) ∙ ap (passes t) (up one))
+    passes-rising e one = ap flag (positive-is (read c +ℤ pos i) e t m ∙ with-factor (up (read c) (pos i)) one)
 
     pub passes-falling : kind ≡ 5 → f ≡ negsuc 0
         → flag (ltZ (pos 0) (read c -ℤ pos i)) ≡ flag (passes t (c +ℤ f *ℤ pos i))
-    passes-falling e one = ap flag (is-positive e (read c -ℤ pos i) ∙ ap (passes t) (down one))
+    passes-falling e one = ap flag (positive-is (read c -ℤ pos i) e t m ∙ with-factor (down (read c) (pos i)) one)
 
     pub passes-divided : kind ≡ 6 → f ≡ pos 1
         → flag (divides k (read c +ℤ pos i)) ≡ flag (passes t (c +ℤ f *ℤ pos i))
-    passes-divided e one = ap flag (is-divided e (read c +ℤ pos i) ∙ ap (passes t) (up one))
+    passes-divided e one = ap flag (divided-is (read c +ℤ pos i) e t m ∙ with-factor (up (read c) (pos i)) one)
 
     pub passes-undivided : kind ≡ 7 → f ≡ pos 1
-        → 1 - flag (divides k (read c +ℤ pos i)) ≡ flag (passes t (c +ℤ f *ℤ pos i))
-    passes-undivided e one =
-        other (divides k (read c +ℤ pos i))
-        ∙ ap flag (is-undivided e (read c +ℤ pos i) ∙ ap (passes t) (up one))
-      where
-        other : (b : Bool) → 1 - flag b ≡ flag (not b)
-        other true = refl
-        other false = refl
+        → flag (not (divides k (read c +ℤ pos i))) ≡ flag (passes t (c +ℤ f *ℤ pos i))
+    passes-undivided e one = ap flag (undivided-is (read c +ℤ pos i) e t m ∙ with-factor (up (read c) (pos i)) one)
 
 -- ---- folding the literal
 
@@ -158,7 +119,7 @@ module _ (t : Test) (z : Sum) where
 -- ---- T at x = w + k
 
 module _ {ws : List ℤ} {n x at : ℕ} {t : Test} {s w v : Sum} {f : ℤ} (l : LiteralAt ws n t s) (start : at ≡ start-of t)
-    (setting : (1 ≤ x) × (x ≤ 6)) (shifted : Shifted x w v) (fits : SFits w64 f) (term : f ≡ getD ws (at + x) (pos 0))
+    (setting : InRange x) (shifted : Shifted x w v) (fits : SFits w64 f) (term : f ≡ getD ws (at + x) (pos 0))
     (k : ℕ) where
   abbrev put-in : Sum
   put-in = sum-at x (add w (number (pos k))) s
@@ -204,26 +165,21 @@ module _ {ws : List ℤ} {n x at : ℕ} {t : Test} {s w v : Sum} {f : ℤ} (l : 
 
 -- ---- what the calls ask
 
-module _ {ws : List ℤ} {x : ℕ} {v : Sum} (some : SomeMoved ws x v) where
-  pub some-literal : SomeLiteral ws
-  some-literal = record { node = some .node; test = some .test; sum = some .sum; at = some .at }
+module _ {ws : List ℤ} {x : ℕ} {v : Sum} (some : SomeMoved ws x v) {kind at : ℕ}
+    (first : getD ws 0 (pos 0) ≡ signed kind) (starts : (t : Test) → kind ≡ test-kind t → at ≡ start-of t) where
+  pub starts-inside : at + 7 ≤ length ws
+  starts-inside = literal-start (some .literal .test) (some .literal .at) first starts .1
 
-  module _ {kind at : ℕ} (first : getD ws 0 (pos 0) ≡ signed kind)
-      (starts : (t : Test) → kind ≡ test-kind t → at ≡ start-of t) where
-    pub starts-inside : at + 7 ≤ length ws
-    starts-inside = literal-start (some .test) (some .at) first starts .1
-
-    pub reach : {f : ℤ} → SFits w64 f → mag f < 2147483648 → Reach ws at (read f) v
-    reach {f} fits small = record {
-      long = starts-inside;
-      small = again w64 fits (natAbs-le f small);
-      seven = some .seven;
-      within = some .within;
-    }
+  pub reach : {f : ℤ} → SFits w64 f → mag f < 2147483648 → Reach ws at (read f) v
+  reach {f} fits small = record {
+    long = starts-inside;
+    small = again w64 fits (natAbs-le f small);
+    shift = some .shift;
+  }
 
 -- ---- the far-left body, and the full one
 
-pub put-fair : (far : Bool) (x : ℕ) {q : Change} → (1 ≤ x) × (x ≤ 6) → q ≡ put-into far x → Fair q
+pub put-fair : (far : Bool) (x : ℕ) {q : Change} → InRange x → q ≡ put-into far x → Fair q
 put-fair far x h e = subst Fair (sym e) (by far)
   where
     by : (far : Bool) → Fair (put-into far x)

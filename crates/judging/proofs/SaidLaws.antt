@@ -8,8 +8,8 @@ use lib.Bits.{bitAnd, bitOr}
 use Rattle.rules.specs.Rule.{Junction, and, or, Rule, Constant, Join, Not, Literal, Bind}
 use Rattle.rules.specs.Fold.{Side, decides, drops, stays, side, fold, fold-not, fold-join, fold-sides}
 use Rattle.rules.proofs.Folding.{Open}
-use Rattle.judging.specs.Judging.{bit, settled-as, Says}
-use Rattle.judging.specs.Masks.{flag, Known, joint}
+use Rattle.judging.specs.Judging.{bit, flag, settled-as, Says}
+use Rattle.judging.specs.Masks.{Known, joint}
 use Rattle.judging.proofs.BitLaws.{bit-and, bit-or, bit-all}
 
 -- ---- what is settled
@@ -120,8 +120,8 @@ module _ {ys ns k : ℕ} where
   pub says-value : (t : ℕ → Bool) {r : Rule} {v : Bool} → Known ys ns t → k < 64 → t k ≡ v → fold r ≡ Constant v
       → Says ys ns k r
   says-value t {r} {v} m h e f = record {
-    is-yes = m k h .0 ∙ ap flag e ∙ settled-true v ∙ ap (settled-as true) (sym f);
-    is-no = m k h .1 ∙ ap (λ (b : Bool). flag (not b)) e ∙ settled-false v ∙ ap (settled-as false) (sym f);
+    is-yes = m .0 k h ∙ ap flag e ∙ settled-true v ∙ ap (settled-as true) (sym f);
+    is-no = m .1 k h ∙ ap (λ (b : Bool). flag (not b)) e ∙ settled-false v ∙ ap (settled-as false) (sym f);
   }
 
   pub says-throughout : {r : Rule} {v : Bool} → fold r ≡ Constant v → Known ys ns (λ i. v) → k < 64 → Says ys ns k r

@@ -3,29 +3,30 @@
 use mathlib.Core.Path.{_≡_, refl, sym, ap, ap₂, _∙_, subst}
 use mathlib.Core.Bool.{Bool, true, false, cond}
 use mathlib.Core.List.{[], _∷_}
-use Prim.Native.Nat.{ℕ, zero, suc, _+_, _≤_}
+use Prim.Native.Nat.{ℕ, zero, suc, _+_, _<_, _≤_}
 use native.Mathlib.Omega.{arith}
 use borrow.Author.Tests.{eq-eqb, ne-eqb}
 use lib.Dec.{T, eqb, eqb→eq, le→leb}
-use lib.IntN.{ℤ, pos, negsuc, natAbs, _+ℤ_, _-ℤ_, _*ℤ_}
+use lib.IntN.{ℤ, pos, negsuc, natAbs, _+ℤ_, _-ℤ_, _*ℤ_, +ℤ-idr, +ℤ-assoc}
 use lib.ListN.{length, getD}
+use lib.Seq.{ext-getD}
 use mir.Syntax.{w64}
 use mir.Val.{SFits, toZ}
 use mir.Facts.{toZ-ofZ, toZ-pos}
 use Rattle.whole.specs.Integers.{within}
 use Rattle.whole.proofs.Tests.{T-and}
-use Rattle.whole.proofs.Difference.{zz, z1, z3}
 use Rattle.whole.proofs.Ring.{rr, r2, r4, ring}
 use Rattle.rules.specs.Sum.{Sum, factor, add, scale, negate, put, number, setting, limit, all-within}
 use Rattle.rules.specs.Steps.{sum-at}
 use Rattle.rules.specs.Eliminate.{most-period}
-use Rattle.rules.proofs.Sums.{factor-scale, factor-add, number-factor}
-use Rattle.rules.proofs.Sums.{length-scale, length-add, length-put}
-use Rattle.literals.proofs.ChangeLaws.{put-word}
-use Rattle.literals.proofs.Sizes.{read, again, size-add, fits-size}
-use Rattle.literals.proofs.Terms.{within-at, listed}
-use Rattle.judging.specs.Shifts.{less, most-shift}
-use Rattle.judging.proofs.ProductLaws.{size-less}
+use Rattle.rules.proofs.Sums.{factor-scale, factor-add, number-factor, length-scale, length-add, length-put}
+use Rattle.literals.specs.Rows.{row-word, most-put}
+use Rattle.literals.specs.Changes.{InRange}
+use Rattle.literals.proofs.ChangeLaws.{put-word, put-in-word, sum-at-seven}
+use Rattle.literals.proofs.Sizes.{read, again, size-add, size-less, fits-size}
+use Rattle.literals.proofs.Sevens.{within-at}
+use Rattle.judging.specs.Judging.{Sized}
+use Rattle.judging.specs.Shifts.{less}
 
 -- ---- the words of w − x
 
@@ -40,11 +41,11 @@ zero-number (suc i) = number-factor (suc i) (pos 0) (omega arith)
 less-word : (x i : ℕ) (w : Sum) → factor i (less x w) ≡ factor i w +ℤ one-at x i
 unfolding less negate setting
 less-word x i w =
-    factor-add i w (scale (negsuc 0) (put x (pos 1) (number (pos 0))))
+    let one = put x (pos 1) (number (pos 0)) in
+    let word-of-x = put-word i x (pos 1) (number (pos 0)) ∙ ap (cond (eqb i x) (pos 1)) (zero-number i) in
+    factor-add i w (scale (negsuc 0) one)
     ∙ ap (λ (z : ℤ). factor i w +ℤ z)
-    (factor-scale i (negsuc 0) (put x (pos 1) (number (pos 0)))
-    ∙ ap (λ (z : ℤ). negsuc 0 *ℤ z) (put-word i x (pos 1) (number (pos 0)) ∙ ap (cond (eqb i x) (pos 1)) (zero-number i))
-    ∙ by (eqb i x))
+    (factor-scale i (negsuc 0) one ∙ ap (λ (z : ℤ). negsuc 0 *ℤ z) word-of-x ∙ by (eqb i x))
   where
     by : (b : Bool) → negsuc 0 *ℤ cond b (pos 1) (pos 0) ≡ cond b (negsuc 0) (pos 0)
     by true = refl
@@ -60,22 +61,17 @@ module _ (x : ℕ) (w : Sum) (seven : length w ≡ 7) (low : x ≤ 6) where
 
 -- ---- T + f·(w − x)
 
-nothing-more : (z : ℤ) → z +ℤ pos 0 ≡ z
-nothing-more = z1 _ (simp zz (omega arith))
-
 module _ (x k : ℕ) (w s : Sum) where
   -- word i of w + k
   further : (i : ℕ) → 1 ≤ i → factor i (add w (number (pos k))) ≡ factor i w
   further i h =
       factor-add i w (number (pos k)) ∙ ap (λ (z : ℤ). factor i w +ℤ z) (number-factor i (pos k) h)
-      ∙ nothing-more (factor i w)
+      ∙ +ℤ-idr (factor i w)
 
   at-word : (i : ℕ) → factor i (sum-at x (add w (number (pos k))) s)
       ≡ cond (eqb i x) (pos 0) (factor i s) +ℤ factor x s *ℤ factor i (add w (number (pos k)))
-  unfolding sum-at
-  at-word i =
-      factor-add i (put x (pos 0) s) (scale (factor x s) (add w (number (pos k))))
-      ∙ ap₂ _+ℤ_ (put-word i x (pos 0) s) (factor-scale i (factor x s) (add w (number (pos k))))
+  unfolding row-word
+  at-word i = put-in-word (add w (number (pos k))) s i x
 
   pub factor-moved : (i : ℕ) → 1 ≤ i → factor i (sum-at x (add w (number (pos k))) s)
       ≡ factor i s +ℤ factor x s *ℤ factor i (less x w)
@@ -92,7 +88,7 @@ module _ (x k : ℕ) (w s : Sum) where
           let same = eqb→eq i x (subst T (sym e) tt) in
           taken (factor x s) (factor i w)
           ∙ ap (λ (v : ℕ). factor v s +ℤ factor x s *ℤ (factor i w +ℤ negsuc 0)) (sym same)
-      by false e = ap (λ (z : ℤ). factor i s +ℤ factor x s *ℤ z) (sym (nothing-more (factor i w)))
+      by false e = ap (λ (z : ℤ). factor i s +ℤ factor x s *ℤ z) (sym (+ℤ-idr (factor i w)))
 
   -- c, which moves with k
   pub number-moved : 1 ≤ x → factor 0 (sum-at x (add w (number (pos k))) s)
@@ -109,47 +105,45 @@ module _ (x k : ℕ) (w s : Sum) where
 
       zeroth : factor 0 (less x w) ≡ factor 0 w
       zeroth =
-          less-word x 0 w ∙ ap (λ (b : Bool). factor 0 w +ℤ cond b (negsuc 0) (pos 0)) apart ∙ nothing-more (factor 0 w)
+          less-word x 0 w ∙ ap (λ (b : Bool). factor 0 w +ℤ cond b (negsuc 0) (pos 0)) apart ∙ +ℤ-idr (factor 0 w)
 
       law : (a f w k : ℤ) → a +ℤ f *ℤ (w +ℤ k) ≡ a +ℤ f *ℤ w +ℤ f *ℤ k
       law = r4 _ (simp rr (ring refl))
 
   pub moved-seven : length w ≡ 7 → length s ≡ 7 → x ≤ 6 → length (sum-at x (add w (number (pos k))) s) ≡ 7
-  unfolding sum-at
   moved-seven seven long low =
-      let further-seven = length-add w (number (pos k)) seven in
-      let scaled = length-scale (factor x s) (add w (number (pos k))) ∙ further-seven in
-      length-add (put x (pos 0) s) (scale (factor x s) (add w (number (pos k))))
-      (length-put x (pos 0) s (omega arith) ∙ long ∙ sym scaled) ∙ scaled
+      sum-at-seven (add w (number (pos k))) s (length-add w (number (pos k)) seven) long x low
 
 -- ---- u + j, and k more
 
-pub add-twice : (u : Sum) (j k : ℕ) → length u ≡ 7
-    → add (add u (number (pos j))) (number (pos k)) ≡ add u (number (pos (j + k)))
-add-twice u j k e =
-    subst (λ (l : Sum). add (add l (number (pos j))) (number (pos k)) ≡ add l (number (pos (j + k)))) (sym (listed u e))
-    (by (getD u 0 (pos 0)) (getD u 1 (pos 0)) (getD u 2 (pos 0)) (getD u 3 (pos 0)) (getD u 4 (pos 0))
-    (getD u 5 (pos 0)) (getD u 6 (pos 0)))
-  where
-    law : (c j k : ℤ) → c +ℤ j +ℤ k ≡ c +ℤ (j +ℤ k)
-    law = z3 _ (simp zz (omega arith))
+module _ (u : Sum) (j k : ℕ) where
+  numbers-add : (i : ℕ) → factor i (number (pos j)) +ℤ factor i (number (pos k)) ≡ factor i (number (pos (j + k)))
+  numbers-add zero = refl
+  numbers-add (suc i) =
+      ap₂ _+ℤ_ (number-factor (suc i) (pos j) (omega arith)) (number-factor (suc i) (pos k) (omega arith))
+      ∙ sym (number-factor (suc i) (pos (j + k)) (omega arith))
 
-    none : (z : ℤ) → z +ℤ pos 0 +ℤ pos 0 ≡ z +ℤ pos 0
-    none z = nothing-more (z +ℤ pos 0)
+  words-add : (i : ℕ) → factor i (add (add u (number (pos j))) (number (pos k)))
+      ≡ factor i (add u (number (pos (j + k))))
+  words-add i =
+      factor-add i (add u (number (pos j))) (number (pos k))
+      ∙ ap (λ (z : ℤ). z +ℤ factor i (number (pos k))) (factor-add i u (number (pos j)))
+      ∙ +ℤ-assoc (factor i u) (factor i (number (pos j))) (factor i (number (pos k)))
+      ∙ ap (λ (z : ℤ). factor i u +ℤ z) (numbers-add i) ∙ sym (factor-add i u (number (pos (j + k))))
 
-    by : (c a1 a2 a3 a4 a5 a6 : ℤ)
-        → add (add (c ∷ a1 ∷ a2 ∷ a3 ∷ a4 ∷ a5 ∷ a6 ∷ []) (number (pos j))) (number (pos k))
-        ≡ add (c ∷ a1 ∷ a2 ∷ a3 ∷ a4 ∷ a5 ∷ a6 ∷ []) (number (pos (j + k)))
-    by c a1 a2 a3 a4 a5 a6 = unfold add in
-        ap₂ _∷_ (law c (pos j) (pos k)) (ap₂ _∷_ (none a1) (ap₂ _∷_ (none a2) (ap₂ _∷_ (none a3)
-        (ap₂ _∷_ (none a4) (ap₂ _∷_ (none a5) (ap₂ _∷_ (none a6) refl))))))
+  pub add-twice : length u ≡ 7 → add (add u (number (pos j))) (number (pos k)) ≡ add u (number (pos (j + k)))
+  add-twice e =
+      let once = length-add u (number (pos j)) e in
+      let twice = length-add (add u (number (pos j))) (number (pos k)) once in
+      ext-getD (pos 0) (add (add u (number (pos j))) (number (pos k))) (add u (number (pos (j + k))))
+      (twice ∙ sym (length-add u (number (pos (j + k))) e)) (λ i h. words-add i)
 
 -- ---- the words of u + j − x, as they are computed
 
-module _ (u : Sum) (j x i : ℕ) (limited : T (all-within limit u)) (upto : j ≤ most-period) {a : ℤ} (fa : SFits w64 a)
-    (e : a ≡ getD u i (pos 0)) where
+module _ {u : Sum} {j x i : ℕ} (pre : Sized limit u × (j ≤ most-period) × InRange x × (i < 7)) {a : ℤ}
+    (fa : SFits w64 a) (e : a ≡ getD u i (pos 0)) where
   size : natAbs a ≤ limit
-  size = rw e (within-at limit u i limited)
+  size = rw e (within-at limit u i (pre .0 .within))
 
   word-is : factor i (less x (add u (number (pos j)))) ≡ a +ℤ factor i (number (pos j)) +ℤ one-at x i
   word-is =
@@ -166,9 +160,9 @@ module _ (u : Sum) (j x i : ℕ) (limited : T (all-within limit u)) (upto : j �
   pub first-asks : SFits w64 (read a +ℤ toZ w64 j)
   first-asks = subst (SFits w64) (sym first-read) first-fits
 
-  pub first-is : 1 ≤ x → i ≡ 0 → (read (read a +ℤ toZ w64 j) ≡ getD (less x (add u (number (pos j)))) i (pos 0))
-      × (natAbs (read (read a +ℤ toZ w64 j)) ≤ most-shift)
-  first-is h z =
+  pub first-is : i ≡ 0 → (read (read a +ℤ toZ w64 j) ≡ getD (less x (add u (number (pos j)))) i (pos 0))
+      × (natAbs (read (read a +ℤ toZ w64 j)) ≤ most-put)
+  first-is z =
       let is = ap read first-read ∙ toZ-ofZ first-fits in (
         is ∙ sym (word-is ∙ law z),
         omega (arith, ap natAbs is, size, size-add a (pos j)),
@@ -178,7 +172,7 @@ module _ (u : Sum) (j x i : ℕ) (limited : T (all-within limit u)) (upto : j �
       law z =
           ap₂ (λ (n : ℕ) (b : Bool). a +ℤ factor n (number (pos j)) +ℤ cond b (negsuc 0) (pos 0)) z
           (ne-eqb i x (λ p. omega arith))
-          ∙ nothing-more (a +ℤ pos j)
+          ∙ +ℤ-idr (a +ℤ pos j)
 
   minus-fits : SFits w64 (a -ℤ pos 1)
   minus-fits = fits-size w64 (a -ℤ pos 1) (omega (arith, size, size-less a (pos 1)))
@@ -196,34 +190,24 @@ module _ (u : Sum) (j x i : ℕ) (limited : T (all-within limit u)) (upto : j �
       some i n = omega arith
 
   pub setting-is : ¬ (i ≡ 0) → i ≡ x → (read (read a -ℤ pos 1) ≡ getD (less x (add u (number (pos j)))) i (pos 0))
-      × (natAbs (read (read a -ℤ pos 1)) ≤ most-shift)
+      × (natAbs (read (read a -ℤ pos 1)) ≤ most-put)
   setting-is n p =
       let is = ap read minus-read ∙ toZ-ofZ minus-fits in (
         is ∙ sym (word-is
             ∙ ap₂ (λ (z : ℤ) (b : Bool). a +ℤ z +ℤ cond b (negsuc 0) (pos 0)) (none-of-number n) (eq-eqb i x p)
-            ∙ ap (λ (z : ℤ). z +ℤ negsuc 0) (nothing-more a)),
+            ∙ ap (λ (z : ℤ). z +ℤ negsuc 0) (+ℤ-idr a)),
         omega (arith, ap natAbs is, size, size-less a (pos 1)),
       )
 
   pub other-is : ¬ (i ≡ 0) → ¬ (i ≡ x) → (read a ≡ getD (less x (add u (number (pos j)))) i (pos 0))
-      × (natAbs (read a) ≤ most-shift)
+      × (natAbs (read a) ≤ most-put)
   other-is n p = (
     toZ-ofZ fa ∙ sym (word-is ∙ ap₂ (λ (z : ℤ) (b : Bool). a +ℤ z +ℤ cond b (negsuc 0) (pos 0)) (none-of-number n)
-        (ne-eqb i x p) ∙ nothing-more (a +ℤ pos 0) ∙ nothing-more a),
+        (ne-eqb i x p) ∙ +ℤ-idr (a +ℤ pos 0) ∙ +ℤ-idr a),
     omega (arith, ap natAbs (toZ-ofZ fa), size),
   )
 
--- ---- the seven, as an array holds them
-
-pub seven-are : {z : Sum} → length z ≡ 7 → {a b c d e f g : ℤ}
-    → SFits w64 a → SFits w64 b → SFits w64 c → SFits w64 d → SFits w64 e → SFits w64 f → SFits w64 g
-    → a ≡ getD z 0 (pos 0) → b ≡ getD z 1 (pos 0) → c ≡ getD z 2 (pos 0) → d ≡ getD z 3 (pos 0)
-    → e ≡ getD z 4 (pos 0) → f ≡ getD z 5 (pos 0) → g ≡ getD z 6 (pos 0)
-    → (read a ∷ read b ∷ read c ∷ read d ∷ read e ∷ read f ∷ read g ∷ []) ≡ z
-seven-are {z} seven fa fb fc fd fe ff fg pa pb pc pd pe pf pg =
-    ap₂ _∷_ (toZ-ofZ fa ∙ pa) (ap₂ _∷_ (toZ-ofZ fb ∙ pb) (ap₂ _∷_ (toZ-ofZ fc ∙ pc) (ap₂ _∷_ (toZ-ofZ fd ∙ pd)
-    (ap₂ _∷_ (toZ-ofZ fe ∙ pe) (ap₂ _∷_ (toZ-ofZ ff ∙ pf) (ap₂ _∷_ (toZ-ofZ fg ∙ pg) refl))))))
-    ∙ sym (listed z seven)
+-- ---- the size of the seven, as an array holds them
 
 within-more : (n : ℕ) (z : ℤ) (zs : Sum) → SFits w64 z → natAbs z ≤ n → T (all-within n zs)
     → T (all-within n (read z ∷ zs))

@@ -2,11 +2,10 @@
 -- Assumes nothing.
 use mathlib.Core.Path.{_≡_, refl, sym, ap, ap₂, _∙_, subst}
 use mathlib.Core.Logic.{_⊎_, inl, inr}
-use mathlib.Core.Bool.{Bool, true, false}
+use mathlib.Core.Bool.{Bool}
 use mathlib.Core.List.{List}
-use Prim.Native.Nat.{ℕ, _+_, _-_, _<_, _≤_}
+use Prim.Native.Nat.{ℕ, _+_, _<_, _≤_}
 use native.Mathlib.Omega.{arith}
-use borrow.Author.Tests.{eqb-true, eqb-false}
 use borrow.Rule.Slice.PartAt.{part-to-end}
 use lib.Dec.{eqb}
 use lib.IntN.{pos}
@@ -17,21 +16,16 @@ use Rattle.rules.specs.Rule.{Rule, Constant, Join}
 use Rattle.rules.specs.Fold.{fold}
 use Rattle.rules.specs.Calls.{signed, words}
 use Rattle.tables.specs.declared.sides.Side.{Side}
-use Rattle.tables.proofs.WordLaws.{number-of, words-length}
+use Rattle.tables.proofs.WordLaws.{number-of, signed-low, words-length}
 use Rattle.tables.proofs.Parts.{bytes-from, bytes-length}
 use Rattle.judging.specs.Judging.{Says, at-sum}
 use Rattle.judging.specs.Masks.{Known, joint}
 use Rattle.judging.specs.Shifts.{Shifted}
 use Rattle.judging.specs.Walks.{SomeSpine}
-use Rattle.judging.specs.declared.judge.Judged.{Judged}
+use Rattle.judging.specs.declared.answers.Judged.{Judged}
 use Rattle.judging.proofs.SaidLaws.{says-throughout, drops-out, regroup}
-use Rattle.judging.proofs.WalkLaws.{
-  Call,
-  WalkingFor,
-  SomeFor,
-  Judges,
-  further,
-  Kinded,
+use Rattle.judging.proofs.WalkLaws.{Call, call, WalkingFor, SomeFor, JudgesFor, further, Kinded}
+use Rattle.judging.proofs.JoinLaws.{
   JoinKind,
   RightFound,
   sides-of,
@@ -58,30 +52,14 @@ bytes-twice l a b =
 
 further-none : (q : Call) → q ≡ further q 0 0 (q .node) (q .place)
 further-none q =
-    ap₂ (λ (es bs : List ℕ). record {
-      entries = es;
-      bodies = bs;
-      node = q .node;
-      place = q .place;
-      far = q .far;
-      x = q .x;
-      shift = q .shift;
-    })
+    ap₂ (λ (es bs : List ℕ). call es bs (q .node) (q .place) (q .far) (q .x) (q .shift))
     (bytes-none (q .entries)) (bytes-none (q .bodies))
 
-further-twice : (q : Call) (e b n p e′ b′ n′ p′ : ℕ)
-    → further (further q e b n p) e′ b′ n′ p′ ≡ further q (e + e′) (b + b′) n′ p′
-further-twice q e b n p e′ b′ n′ p′ =
-    ap₂ (λ (es bs : List ℕ). record {
-      entries = es;
-      bodies = bs;
-      node = n′;
-      place = p′;
-      far = q .far;
-      x = q .x;
-      shift = q .shift;
-    })
-    (bytes-twice (q .entries) e e′) (bytes-twice (q .bodies) b b′)
+further-twice : (q : Call) (e b n p d c m o : ℕ)
+    → further (further q e b n p) d c m o ≡ further q (e + d) (b + c) m o
+further-twice q e b n p d c m o =
+    ap₂ (λ (es bs : List ℕ). call es bs m o (q .far) (q .x) (q .shift))
+    (bytes-twice (q .entries) e d) (bytes-twice (q .bodies) b c)
 
 -- ---- where the loop stands
 
@@ -94,6 +72,7 @@ pub record Rest (q at : Call) (t : Bool) (before : Judged) (a : Rule) (w : Sum) 
   pub back : (ys ns : ℕ) → Says ys ns k (Join (joint t) prefix (at-sum (q .far) (q .x) w k rest))
       → Says ys ns k (at-sum (q .far) (q .x) w k a)
 
+-- so far into the entries and the bodies, of every rule that the call may be on
 pub record Along (q : Call) (kind : ℕ) (before : Judged) (from start n p : ℕ) : Type 0 where
   pub some : SomeFor (further q from start n p)
   pub rests : (a : Rule) (w : Sum) (k : ℕ) → WalkingFor q a → Shifted (q .x) w (q .shift) → k < 64
@@ -144,31 +123,19 @@ module _ {q : Call} {kind : ℕ} {before : Judged} {from start n p : ℕ} (along
   pub passed : {k : ℕ} → SpineFor q kind → getD (words (at .bodies)) 0 (pos 0) ≡ signed k → ¬ (k ≡ kind) → 0 < from
   passed {k} spine first other = by (along .moved)
     where
-      small : (m : ℕ) → 2 ≤ m → m ≤ 3 → signed m ≡ pos m
-      small m low high = pick (eqb m 2) refl
-        where
-          pick : (t : Bool) → eqb m 2 ≡ t → signed m ≡ pos m
-          pick true e = let two = eqb-true m 2 e in ap signed two ∙ ap pos (sym two)
-          pick false e =
-              let three : m ≡ 3 = (let apart = eqb-false m 2 e in last m low high apart) in
-              ap signed three ∙ ap pos (sym three)
-            where
-              last : (m : ℕ) → 2 ≤ m → m ≤ 3 → ¬ (m ≡ 2) → m ≡ 3
-              last m low high apart = omega arith
-
       by : (0 < from) ⊎ (getD (words (bytes-from (q .bodies) start)) 0 (pos 0) ≡ signed kind) → 0 < from
       by (inl h) = h
-      by (inr e) = absurd (other (number-of k kind (sym first ∙ e ∙ small kind (spine .low) (spine .high))))
+      by (inr e) = absurd (other (number-of k kind (sym first ∙ e ∙ signed-low kind (omega (arith, spine .high)))))
 
   pub rest-shorter : 0 < from → length (bytes-from (q .entries) from) < length (q .entries)
   rest-shorter h = omega (arith, bytes-length (q .entries) from, along .entries-low)
 
   -- ---- the last side
 
-  pub last-says : {last : Judged} {trues falses : ℕ} → Judges at (last .yes) (last .no)
+  pub last-says : {last : Judged} {trues falses : ℕ} → JudgesFor at (last .yes) (last .no)
       → ((i : ℕ) (a b : Rule) → Says (before .yes) (before .no) i a → Says (last .yes) (last .no) i b
       → Says trues falses i (Join (joint (eqb kind 2)) a b))
-      → Judges q trues falses
+      → JudgesFor q trues falses
   last-says judged joined a w i h shifted less =
       let r = along .rests a w i h shifted less in
       r .back _ _ (joined i _ _ (r .said) (judged (r .rest) w i (r .walking) shifted less))
@@ -197,7 +164,7 @@ module _ {q : Call} {kind : ℕ} {before : Judged} {from start n p : ℕ} (along
   -- the left side is judged, and joined to those before
   pub record LeftJudged (left after : Judged) : Type 0 where
     pub join : JoinKind at kind
-    pub judged : Judges left-at (left .yes) (left .no)
+    pub judged : JudgesFor left-at (left .yes) (left .no)
     pub joined : (i : ℕ) (a b : Rule) → Says (before .yes) (before .no) i a → Says (left .yes) (left .no) i b
         → Says (after .yes) (after .no) i (Join (joint (eqb kind 2)) a b)
 
@@ -228,7 +195,7 @@ module _ {q : Call} {kind : ℕ} {before : Judged} {from start n p : ℕ} (along
     -- they settle the join
     pub after-says : ((i : ℕ) (a b : Rule) → i < 64 → Says (after .yes) (after .no) i a
         → Says (after .yes) (after .no) i (Join (joint (eqb kind 2)) a b))
-        → Judges q (after .yes) (after .no)
+        → JudgesFor q (after .yes) (after .no)
     after-says settles a w i h shifted less =
         let (prefix, side, said, back, there) = next a w i h shifted less in
         back _ _ (settles i _ _ less said)
@@ -255,7 +222,7 @@ module _ {q : Call} {kind : ℕ} {before : Judged} {from start n p : ℕ} (along
 -- the bytes of a table are few
 pub few-bytes : (q : Call) → SomeFor q → (length (q .entries) ≤ 65540) × (length (q .bodies) ≤ 65540)
 few-bytes q some =
-    let few = some .walking .few in (
+    let few = some .walking .at .few in (
       omega (arith, few .few-nodes, words-length (q .entries)),
       omega (arith, few .few-words, words-length (q .bodies)),
     )

@@ -1,7 +1,7 @@
--- What is judged at 64 values of j at once: two masks, and what a bit of them says.
+-- A body at 64 values of x at once: two masks, and what bit k of them says of the body at the k-th value.
 -- Assumes nothing.
 use mathlib.Core.Path.{_≡_}
-use mathlib.Core.Bool.{Bool, true, false, cond, Bool·beq}
+use mathlib.Core.Bool.{Bool, true, false, Bool·beq}
 use mathlib.Core.List.{List}
 use Prim.Native.Nat.{ℕ, _/_, _%_, _^_, _≤_}
 use lib.Dec.{T}
@@ -12,9 +12,8 @@ use Rattle.rules.specs.Rule.{Rule, Constant, Join, Not, Literal, Bind}
 use Rattle.rules.specs.Fold.{fold}
 use Rattle.rules.specs.Literals.{map-literals}
 use Rattle.rules.specs.Eliminate.{most-period}
-use Rattle.rules.specs.Laws.{WellFormed}
-use Rattle.tables.specs.Standing.{Stands, Few}
-use Rattle.literals.specs.Changes.{becomes}
+use Rattle.tables.specs.Standing.{RuleAt}
+use Rattle.literals.specs.Changes.{becomes, InRange}
 use Rattle.literals.specs.declared.change.Change.{Change}
 use Rattle.literals.specs.declared.change.Change.the-variants.{Far, Full}
 
@@ -22,9 +21,13 @@ use Rattle.literals.specs.declared.change.Change.the-variants.{Far, Full}
 abbrev pub bit : ℕ → ℕ → ℕ
 bit m k = m / 2 ^ k % 2
 
+abbrev pub flag : Bool → ℕ
+flag true = 1
+flag false = 0
+
 -- 1 where the rule is the truth value v, else 0
 unfoldable pub settled-as : Bool → Rule → ℕ
-settled-as v (Constant b) = cond (Bool·beq v b) 1 0
+settled-as v (Constant b) = flag (Bool·beq v b)
 settled-as v (Join j a b) = 0
 settled-as v (Not a) = 0
 settled-as v (Literal t s) = 0
@@ -45,14 +48,16 @@ unfoldable pub at-sum : Bool → ℕ → Sum → ℕ → Rule → Rule
 unfolding map-literals becomes put-into add
 at-sum far x u j a = map-literals (becomes (put-into far x) (add u (number (pos j)))) a
 
--- the body a stands there, and the sums u + j, u + j + 1, .. are put in for x
-pub record Judging (es bs : List ℤ) (n p x : ℕ) (u : Sum) (j : ℕ) (a : Rule) : Type 0 where
-  pub stands : Stands es bs n p a
-  pub few : Few es bs n p
-  pub formed : WellFormed a
-  pub setting : (1 ≤ x) × (x ≤ 6)
+-- u has seven words, none with a size over m
+pub record Sized (m : ℕ) (u : Sum) : Type 0 where
   pub seven : length u ≡ 7
-  pub within : T (all-within limit u)
+  pub within : T (all-within m u)
+
+-- the body a, in which the sums u + j, u + j + 1, .. are put in for x
+pub record Judging (es bs : List ℤ) (n p x : ℕ) (u : Sum) (j : ℕ) (a : Rule) : Type 0 where
+  pub at : RuleAt es bs n p a
+  pub setting : InRange x
+  pub sum : Sized limit u
   pub upto : j ≤ most-period
 
 pub record SomeJudging (es bs : List ℤ) (n p x : ℕ) (u : Sum) (j : ℕ) : Type 0 where

@@ -3,13 +3,13 @@
 use mathlib.Core.Path.{_≡_}
 use mathlib.Core.List.{List}
 use Prim.Native.Nat.{ℕ, _+_, _<_, _≤_}
-use lib.Dec.{T}
 use lib.IntN.{ℤ, pos, natAbs, _+ℤ_, _*ℤ_}
 use lib.ListN.{length, getD}
-use Rattle.rules.specs.Sum.{Sum, add, negate, setting, all-within}
-use Rattle.rules.specs.Rule.{Test}
-use Rattle.literals.specs.Literal.{LiteralAt}
-use Rattle.literals.specs.Rows.{most-word}
+use Rattle.rules.specs.Sum.{Sum, add, negate, setting}
+use Rattle.literals.specs.Literal.{SomeLiteral}
+use Rattle.literals.specs.Rows.{most-word, most-put}
+use Rattle.literals.specs.Changes.{InRange}
+use Rattle.judging.specs.Judging.{Sized}
 
 -- w − x
 unfoldable pub less : ℕ → Sum → Sum
@@ -21,11 +21,7 @@ pub record Shifted (x : ℕ) (w v : Sum) : Type 0 where
   pub seven : length w ≡ 7
   pub is : v ≡ less x w
 
--- the most that a word of u + j − x comes to: a word of u lies within the limit, j is 4,096 at most
-abbrev pub most-shift : ℕ
-most-shift = 2147487744
-
--- and the most that one of T + f·(u + j − x) does
+-- the most that a word of T + f·(u + j − x) comes to
 abbrev pub most-moved : ℕ
 most-moved = 4611694816667893760
 
@@ -33,8 +29,7 @@ most-moved = 4611694816667893760
 pub record Reach (ws : List ℤ) (at : ℕ) (f : ℤ) (v : Sum) : Type 0 where
   pub long : at + 7 ≤ length ws
   pub small : natAbs f ≤ most-word
-  pub seven : length v ≡ 7
-  pub within : T (all-within most-shift v)
+  pub shift : Sized most-put v
 
 -- the sum z has the factors of T + f·v
 pub record Moves (ws : List ℤ) (at : ℕ) (f : ℤ) (v z : Sum) : Type 0 where
@@ -43,10 +38,6 @@ pub record Moves (ws : List ℤ) (at : ℕ) (f : ℤ) (v z : Sum) : Type 0 where
 
 -- some literal stands there, and v is small enough
 pub record SomeMoved (ws : List ℤ) (x : ℕ) (v : Sum) : Type 0 where
-  pub node : ℕ
-  pub test : Test
-  pub sum : Sum
-  pub at : LiteralAt ws node test sum
-  pub setting : (1 ≤ x) × (x ≤ 6)
-  pub seven : length v ≡ 7
-  pub within : T (all-within most-shift v)
+  pub literal : SomeLiteral ws
+  pub setting : InRange x
+  pub shift : Sized most-put v

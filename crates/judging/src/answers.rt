@@ -1,5 +1,5 @@
-// What is judged of a rule from what is judged of its parts.
-use crate::judge::Judged;
+// What is judged of a rule at 64 values of x at once, and of an and, an or and a not from their parts: one operation on
+// the masks does all 64.
 use crate::masks;
 ghost use mathlib.Core.Path.{_≡_};
 ghost use mathlib.Core.Bool.{Bool, true, false};
@@ -7,6 +7,13 @@ ghost use Prim.Native.Nat.{ℕ, _<_};
 ghost use Rattle.rules.specs.Rule.{Rule, Join};
 ghost use Rattle.judging.specs.Judging.{bit, Says};
 ghost use Rattle.judging.specs.Masks.{Mask, Known, joint};
+
+// Bit k of `yes` says that a rule folds to true at the k-th value, bit k of `no` that it folds to false. Where neither
+// has the bit, the rule stays open.
+pub struct Judged {
+    pub yes: u64,
+    pub no: u64,
+}
 
 // True where m has a bit, false elsewhere.
 pub fn settled(m: u64) -> Judged
@@ -51,9 +58,9 @@ pub fn settles(and: bool, l: Judged) -> bool
         → Says (l .yes) (l .no) k (Join (joint and) a b)) ⌝ }
 {
     if and {
-        return l.no == 18446744073709551615;
+        return l.no == masks::ONES;
     }
-    l.yes == 18446744073709551615
+    l.yes == masks::ONES
 }
 
 // An and, or an or.

@@ -1,5 +1,7 @@
-// A body judged at 64 values of x at once: what folding makes of it at each, without building it.
+// A body judged at 64 values of x at once, without building it: each literal is judged as two masks (see `answers`),
+// and nots, ands and ors join them on the way up.
 use crate::answers;
+use crate::answers::Judged;
 use crate::literal;
 use crate::shift;
 use tables::sides;
@@ -8,19 +10,11 @@ ghost use mathlib.Core.Path.{_≡_};
 ghost use mathlib.Core.List.{List};
 ghost use Prim.Native.Nat.{ℕ, _+_, _<_};
 ghost use lib.IntN.{ℤ};
-ghost use Rattle.rules.specs.Sum.{Sum};
 ghost use Rattle.rules.specs.Rule.{Rule};
 ghost use Rattle.rules.specs.Calls.{words as words-of};
 ghost use Rattle.tables.specs.Standing.{Stands};
 ghost use Rattle.judging.specs.Judging.{Says, at-sum, Judging, SomeJudging};
-ghost use Rattle.judging.specs.Shifts.{Shifted};
-ghost use Rattle.judging.specs.Walks.{Walking, SomeWalking, SomeSpine, LiteralKind, nots as nots-of, SomeStands};
-
-// Bit k of `yes` says that a rule folds to true at the k-th value, bit k of `no` that it folds to false.
-pub struct Judged {
-    pub yes: u64,
-    pub no: u64,
-}
+ghost use Rattle.judging.specs.Walks.{SomeWalking, Judges, SomeSpine, LiteralKind, nots as nots-of, SomeStands};
 
 // How many nots start these bodies.
 fn nots(bodies: &[u8]) -> usize
@@ -45,8 +39,8 @@ fn is_literal(kind: usize) -> bool
     kind / 2 != 4
 }
 
-// The rule that starts these entries and bodies, as this node at this place, where v is w − x. A run of nots is passed
-// by one call.
+// The rule that starts these entries and bodies, as this node at this place, at x = w, w + 1, .. where v is w − x. A run
+// of nots is passed by one call. A quantifier stays; the body of the chosen one has none.
 fn walk(
     entries: &[u8],
     bodies: &[u8],
@@ -57,9 +51,8 @@ fn walk(
     v: &[i64; 7],
 ) -> Judged
     requires { ⌜ SomeWalking (words-of (now entries)) (words-of (now bodies)) node place x (now v) ⌝ }
-    ensures { λ r. ⌜ ((a : Rule) (w : Sum) (k : ℕ)
-        → Walking (words-of (now (entries .entry))) (words-of (now (bodies .entry))) node place x (now (v .entry)) a
-        → Shifted x w (now (v .entry)) → k < 64 → Says (r .yes) (r .no) k (at-sum far x w k a)) ⌝ }
+    ensures { λ r. ⌜ Judges (words-of (now (entries .entry))) (words-of (now (bodies .entry))) node place far x
+        (now (v .entry)) (r .yes) (r .no) ⌝ }
 {
     let kind = words::natural(bodies, 0);
     if kind < 2 {
@@ -101,9 +94,8 @@ fn spine(
     v: &[i64; 7],
 ) -> Judged
     requires { ⌜ SomeSpine kind (words-of (now entries)) (words-of (now bodies)) node place x (now v) ⌝ }
-    ensures { λ r. ⌜ ((a : Rule) (w : Sum) (k : ℕ)
-        → Walking (words-of (now (entries .entry))) (words-of (now (bodies .entry))) node place x (now (v .entry)) a
-        → Shifted x w (now (v .entry)) → k < 64 → Says (r .yes) (r .no) k (at-sum far x w k a)) ⌝ }
+    ensures { λ r. ⌜ Judges (words-of (now (entries .entry))) (words-of (now (bodies .entry))) node place far x
+        (now (v .entry)) (r .yes) (r .no) ⌝ }
 {
     let mut before = answers::known(kind == 2);
     let mut from: usize = 0;
@@ -139,9 +131,8 @@ fn side(
     v: &[i64; 7],
 ) -> Judged
     requires { ⌜ SomeWalking (words-of (now entries)) (words-of (now bodies)) node place x (now v) ⌝ }
-    ensures { λ r. ⌜ ((a : Rule) (w : Sum) (k : ℕ)
-        → Walking (words-of (now (entries .entry))) (words-of (now (bodies .entry))) node place x (now (v .entry)) a
-        → Shifted x w (now (v .entry)) → k < 64 → Says (r .yes) (r .no) k (at-sum far x w k a)) ⌝ }
+    ensures { λ r. ⌜ Judges (words-of (now (entries .entry))) (words-of (now (bodies .entry))) node place far x
+        (now (v .entry)) (r .yes) (r .no) ⌝ }
 {
     if is_literal(words::natural(bodies, 0)) {
         return literal::judge(bodies, far, x, v);

@@ -1,6 +1,7 @@
-// A literal at 64 values of x at once. Most keep a setting, and are open throughout: that is seen first.
+// A literal at 64 values of x at once. Most keep a setting, and are open throughout: that is seen first. Else T is a
+// number at each value, which grows by the factor of x from one to the next, and its test is one mask.
 use crate::answers;
-use crate::judge::Judged;
+use crate::answers::Judged;
 use crate::masks;
 use literals::change;
 use literals::change::Change;
@@ -12,7 +13,7 @@ ghost use mathlib.Core.Path.{_≡_};
 ghost use mathlib.Core.Bool.{not};
 ghost use Prim.Native.Nat.{ℕ, _+_, _<_, _≤_};
 ghost use lib.IntN.{pos, natAbs, _+ℤ_, _*ℤ_};
-ghost use lib.ListN.{length, getD};
+ghost use lib.ListN.{getD};
 ghost use Rattle.rules.specs.Sum.{Sum, add, number, no-factors};
 ghost use Rattle.rules.specs.Rule.{Test, Literal, passes as passes-test};
 ghost use Rattle.rules.specs.Fold.{divisor-one};

@@ -6,15 +6,18 @@ ghost use lib.IntN.{pos, natAbs, _+ℤ_, _-ℤ_};
 ghost use lib.Signed.{ltZ};
 ghost use Rattle.whole.specs.Divides.{Divides, divides};
 ghost use Rattle.rules.specs.Sum.{limit};
-ghost use Rattle.judging.specs.Judging.{bit};
-ghost use Rattle.judging.specs.Masks.{flag, Mask, Placed};
+ghost use Rattle.judging.specs.Judging.{bit, flag};
+ghost use Rattle.judging.specs.Masks.{Mask, Placed};
 ghost use Rattle.judging.specs.Shifts.{most-moved};
+
+// Every bit.
+pub const ONES: u64 = 0xFFFF_FFFF_FFFF_FFFF;
 
 // Every bit the other way.
 pub fn opposite(m: u64) -> u64
     ensures { λ r. ⌜ ((k : ℕ) → k < 64 → bit r k ≡ 1 - bit m k) ⌝ }
 {
-    18446744073709551615 - m
+    ONES - m
 }
 
 // The same bit throughout.
@@ -22,7 +25,7 @@ pub fn throughout(b: bool) -> u64
     ensures { λ r. ⌜ Mask r (λ k. b) ⌝ }
 {
     if b {
-        return 18446744073709551615;
+        return ONES;
     }
     0
 }
@@ -43,9 +46,9 @@ pub fn rising(c: i64) -> u64
     ensures { λ r. ⌜ Mask r (λ k. ltZ (pos 0) (c +ℤ pos k)) ⌝ }
 {
     if 0 < c {
-        return 18446744073709551615;
+        return ONES;
     }
-    placed(18446744073709551615, (1 - c) as u64)
+    placed(ONES, (1 - c) as u64)
 }
 
 // The bits k with 0 < c - k, which is not 0 < 1 - c + k.

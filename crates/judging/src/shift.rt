@@ -1,12 +1,15 @@
-// T at x = u + j is T + f·(u + j − x), where f is the factor of x in T: no word is an exception. The sum u + j − x.
+// T at x = w is T + f·(w − x), where f is the factor of x in T: no word is an exception. So what is carried to the
+// literals of a body is w − x, where w is u + j.
 ghost use mathlib.Core.Path.{_≡_};
 ghost use Prim.Native.Nat.{_<_, _≤_};
-ghost use lib.Dec.{T};
 ghost use lib.IntN.{pos, natAbs};
 ghost use lib.ListN.{length, getD};
-ghost use Rattle.rules.specs.Sum.{limit, all-within, add, number};
+ghost use Rattle.rules.specs.Sum.{limit, add, number};
 ghost use Rattle.rules.specs.Eliminate.{most-period};
-ghost use Rattle.judging.specs.Shifts.{less, most-shift};
+ghost use Rattle.literals.specs.Rows.{most-put};
+ghost use Rattle.literals.specs.Changes.{InRange};
+ghost use Rattle.judging.specs.Judging.{Sized};
+ghost use Rattle.judging.specs.Shifts.{less};
 
 fn at(u: &[i64], i: usize) -> i64
     requires { ⌜ i < length (now u) ⌝ }
@@ -15,10 +18,10 @@ fn at(u: &[i64], i: usize) -> i64
     u[i]
 }
 
-// Word i of it.
+// Word i of u + j − x.
 fn word(u: &[i64], j: usize, x: usize, i: usize) -> i64
-    requires { ⌜ (length (now u) ≡ 7) × T (all-within limit (now u)) × (j ≤ most-period) × (1 ≤ x) × (i < 7) ⌝ }
-    ensures { λ r. ⌜ (r ≡ getD (less x (add (now (u .entry)) (number (pos j)))) i (pos 0)) × (natAbs r ≤ most-shift) ⌝ }
+    requires { ⌜ Sized limit (now u) × (j ≤ most-period) × InRange x × (i < 7) ⌝ }
+    ensures { λ r. ⌜ (r ≡ getD (less x (add (now (u .entry)) (number (pos j)))) i (pos 0)) × (natAbs r ≤ most-put) ⌝ }
 {
     let a = at(u, i);
     if i == 0 {
@@ -30,9 +33,10 @@ fn word(u: &[i64], j: usize, x: usize, i: usize) -> i64
     a
 }
 
+// All seven.
 pub fn shifted(u: &[i64], j: usize, x: usize) -> [i64; 7]
-    requires { ⌜ (length (now u) ≡ 7) × T (all-within limit (now u)) × (j ≤ most-period) × (1 ≤ x) × (x ≤ 6) ⌝ }
-    ensures { λ r. ⌜ (r ≡ less x (add (now (u .entry)) (number (pos j)))) × T (all-within most-shift r) ⌝ }
+    requires { ⌜ Sized limit (now u) × (j ≤ most-period) × InRange x ⌝ }
+    ensures { λ r. ⌜ (r ≡ less x (add (now (u .entry)) (number (pos j)))) × Sized most-put r ⌝ }
 {
     [
         word(u, j, x, 0),

@@ -1,7 +1,7 @@
 -- A literal as a step changes it: its words, its divisor, and the truth values of the far-left body.
 -- Assumes nothing.
 use mathlib.Core.Path.{_≡_, refl, sym, ap, ap₂, _∙_, subst}
-use mathlib.Core.Bool.{Bool, true, false, not, cond, _||_}
+use mathlib.Core.Bool.{Bool, true, false, not, cond, _||_, or-true, or-false}
 use mathlib.Core.List.{List}
 use Prim.Native.Nat.{ℕ, _+_, _*_, _/_, _<_, _≤_}
 use native.Mathlib.Nat.{mul-le-mul}
@@ -12,7 +12,7 @@ use lib.IntN.{ℤ, pos, negsuc, natAbs, _+ℤ_, _*ℤ_}
 use lib.ListN.{length, getD}
 use lib.Signed.{mag, natAbs-le}
 use mir.Syntax.{w64}
-use mir.Val.{SFits, Fits, toZ, ofZ}
+use mir.Val.{SFits, Fits}
 use mir.Facts.{toZ-ofZ}
 use Rattle.whole.specs.Integers.{eqZ}
 use Rattle.whole.proofs.Tests.{not-or, not-not, eqZ→eq}
@@ -38,6 +38,7 @@ use Rattle.literals.specs.declared.change.Settled.the-variants.{Yes, No}
 use Rattle.literals.specs.declared.row.Row.{Row}
 use Rattle.literals.specs.declared.row.Row.the-variants.{Times, Plus}
 use Rattle.literals.proofs.Sizes.{read, again}
+use Rattle.literals.proofs.Tests.{positive-test}
 use Rattle.literals.proofs.Literals.{literal-divisor, literal-word}
 
 -- ---- the setting of a change lies in a sum, its common factor is not refused
@@ -117,7 +118,7 @@ put-word i x a s = by (eqb i x) refl
     by false e = factor-put-other i x a s (λ p. absurd (subst T (sym (eq-eqb i x p) ∙ e) tt))
 
 module _ (u s : Sum) (i : ℕ) where
-  put-in-word : (x : ℕ) → factor i (sum-at x u s) ≡ row-word (Plus x (factor x s)) i (factor i s) (factor i u)
+  pub put-in-word : (x : ℕ) → factor i (sum-at x u s) ≡ row-word (Plus x (factor x s)) i (factor i s) (factor i u)
   unfolding sum-at row-word
   put-in-word x =
       factor-add i (put x (pos 0) s) (scale (factor x s) u)
@@ -142,7 +143,7 @@ put-seven : (x : ℕ) (a : ℤ) (z : Sum) → x ≤ 6 → length z ≡ 7 → len
 put-seven x a z h e = length-put x a z (omega arith) ∙ e
 
 module _ (u s : Sum) (seven-u : length u ≡ 7) (seven-s : length s ≡ 7) where
-  sum-at-seven : (x : ℕ) → x ≤ 6 → length (sum-at x u s) ≡ 7
+  pub sum-at-seven : (x : ℕ) → x ≤ 6 → length (sum-at x u s) ≡ 7
   unfolding sum-at
   sum-at-seven x h =
       let scaled = length-scale (factor x s) u ∙ seven-u in
@@ -171,11 +172,11 @@ module _ {ws : List ℤ} {c : Change} {u : Sum} {row : Row} {at : ℕ} where
   pub readable : Usable c u → at + 7 ≤ length ws → Tame row → Readable row ws at u
   readable h long tame = record { long = long; seven = h .seven; small = h .small; tame = tame }
 
-  pub some-within : (h : SomeChanged ws c u) → at ≡ start-of (h .test) → row ≡ row-of c (h .sum)
+  pub some-within : (h : SomeChanged ws c u) → at ≡ start-of (h .literal .test) → row ≡ row-of c (h .literal .sum)
       → SomeWithin row ws at u
   some-within h a e = record {
-    made = changed-sum c u (h .sum);
-    makes = makes (h .usable) (h .at) a e;
+    made = changed-sum c u (h .literal .sum);
+    makes = makes (h .usable) (h .literal .at) a e;
     within = h .within;
   }
 
@@ -239,46 +240,24 @@ module _ (s : Sum) {c : Change} {x : ℕ} (e : c ≡ Far x) where
   far-other (divisible b k) n = settled (divisible b k) No (λ u. refl)
   far-other is-zero n = settled is-zero No (λ u. refl)
 
+  positive-settled : (r : Settled) → Settles (Far x) positive s r → (t : Test) → 5 ≡ test-kind t → Settles c t s r
+  positive-settled r h t k = settled t r (subst (λ (t : Test). Settles (Far x) t s r) (positive-test t k) h)
+
   pub far-one : (t : Test) → 5 ≡ test-kind t → factor x s ≡ pos 1 → Settles c t s (Yes false)
   unfolding Settles becomes far-literal body-at map-literals
-  far-one positive k p = settled positive (Yes false) (λ u. ap (λ f. body-at x u (chosen s f)) p)
-  far-one (divisible true d) k p = absurd (omega arith)
-  far-one (divisible false d) k p = absurd (omega arith)
-  far-one is-zero k p = absurd (omega arith)
+  far-one t k p = positive-settled (Yes false) (λ u. ap (λ f. body-at x u (chosen s f)) p) t k
 
   pub far-minus-one : (t : Test) → 5 ≡ test-kind t → factor x s ≡ negsuc 0 → Settles c t s (Yes true)
   unfolding Settles becomes far-literal body-at map-literals
-  far-minus-one positive k p = settled positive (Yes true) (λ u. ap (λ f. body-at x u (chosen s f)) p)
-  far-minus-one (divisible true d) k p = absurd (omega arith)
-  far-minus-one (divisible false d) k p = absurd (omega arith)
-  far-minus-one is-zero k p = absurd (omega arith)
+  far-minus-one t k p = positive-settled (Yes true) (λ u. ap (λ f. body-at x u (chosen s f)) p) t k
 
   pub far-neither : (t : Test) → 5 ≡ test-kind t → ¬ (factor x s ≡ pos 1) → ¬ (factor x s ≡ negsuc 0) → Settles c t s No
   unfolding Settles becomes far-literal body-at map-literals changed-test changed-sum
-  far-neither positive k p q = settled positive No (λ u. ap₂
+  far-neither t k p q = positive-settled No (λ u. ap₂
       (λ a b. body-at x u (cond a False (cond b True (Literal positive s))))
-      (ne-eqZ (factor x s) (pos 1) p) (ne-eqZ (factor x s) (negsuc 0) q))
-  far-neither (divisible true d) k p q = absurd (omega arith)
-  far-neither (divisible false d) k p q = absurd (omega arith)
-  far-neither is-zero k p q = absurd (omega arith)
-
--- a factor is compared by its bits
-module _ {f : ℤ} where
-  pub is-one : SFits w64 f → ofZ w64 f ≡ 1 → f ≡ pos 1
-  is-one h e = sym (toZ-ofZ h) ∙ ap (toZ w64) e
-
-  pub is-minus-one : SFits w64 f → ofZ w64 f ≡ 18446744073709551615 → f ≡ negsuc 0
-  is-minus-one h e = sym (toZ-ofZ h) ∙ ap (toZ w64) e
+      (ne-eqZ (factor x s) (pos 1) p) (ne-eqZ (factor x s) (negsuc 0) q)) t k
 
 -- ---- the limits
-
-pub or-true : (a : Bool) → (a || true) ≡ true
-or-true true = refl
-or-true false = refl
-
-pub or-false : (a : Bool) → (a || false) ≡ a
-or-false true = refl
-or-false false = refl
 
 over-divisor : (t : Test) → divisor-over t ≡ ltb limit (divisor-or-none t)
 over-divisor positive = refl

@@ -1,5 +1,7 @@
 pub mod Sizes
+pub mod Products
 pub mod Ranges
+pub mod Sevens
 pub mod Terms
 pub mod Tests
 pub mod Literals

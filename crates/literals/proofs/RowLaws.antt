@@ -1,24 +1,25 @@
 -- One word as a step changes it: it fits 64 bits, and it is what the row makes of it.
 -- Assumes nothing.
-use mathlib.Core.Path.{_≡_, refl, sym, ap, ap₂, _∙_}
+use mathlib.Core.Path.{_≡_, refl, sym, ap, _∙_}
 use mathlib.Core.Bool.{Bool, true, false, not, cond}
-use Prim.Native.Nat.{ℕ, zero, suc, _-_, _/_, _^_, _<_, _≤_}
-use native.Mathlib.Nat.{mul-le-mul, le-trans, div-le-self}
+use Prim.Native.Nat.{ℕ, zero, suc, _/_, _<_, _≤_}
+use native.Mathlib.Nat.{le-trans, div-le-self}
 use native.Mathlib.Omega.{arith}
 use borrow.Author.Tests.{eq-eqb, ne-eqb, ltb-true, ltb-false}
-use lib.Dec.{T, eqb, ltb}
+use lib.Dec.{T, eqb}
 use lib.IntN.{ℤ, pos, negsuc, negℤ, natAbs, _+ℤ_, _-ℤ_, _*ℤ_, +ℤ-idl}
 use lib.Signed.{mag, ltZ, nonNeg, natAbs-le}
 use mir.Syntax.{w32, w64}
 use mir.Val.{SFits, Fits, toZ, ofZ}
-use mir.Facts.{toZ-ofZ, toZ-pos}
+use mir.Facts.{toZ-ofZ}
+use Rattle.whole.proofs.Tests.{never}
 use Rattle.whole.specs.Integers.{eqZ}
 use Rattle.whole.proofs.Divisibility.{size-neg}
 use Rattle.rules.specs.Steps.{sign}
 use Rattle.rules.specs.Eliminate.{most-period}
-use Rattle.literals.specs.Rows.{most-word, most-put}
-use Rattle.literals.proofs.Sizes.{read, wide-is, size-mul, fits-size}
-use Rattle.literals.proofs.Ranges.{never}
+use Rattle.literals.specs.Rows.{most-word}
+use Rattle.literals.proofs.Sizes.{read, wide-is, fits-size}
+use Rattle.literals.proofs.Products.{product-asks, product-is}
 
 -- ---- a sign and a size
 
@@ -115,70 +116,24 @@ pub term-is : {a b : ℤ} → SFits w32 a → a ≡ b
     → (read (toZ w32 (ofZ w32 a)) ≡ b) × (mag (read (toZ w32 (ofZ w32 a))) < 2147483648)
 term-is f e = rw (wide-is f) (e, f .sfits)
 
--- ---- taken times a number, or the sign
+-- ---- at the setting of the row, and at any other word
 
+-- taken times a number, or the sign
 pub at-setting : {i x : ℕ} {g : ℤ} (a : ℤ) → SFits w64 g → i ≡ x → read g ≡ cond (eqb i x) g a
 at-setting {i} {x} {g} a f e = toZ-ofZ f ∙ sym (ap (λ (b : Bool). cond b g a) (eq-eqb i x e))
 
 module _ {a : ℤ} (f : SFits w64 a) (low : mag a < 2147483648) (m : ℕ) (h : m ≤ most-period) where
-  product-fits : SFits w64 (pos m *ℤ a)
-  product-fits = fits-size w64 (pos m *ℤ a)
-      (rw (size-mul (pos m) a) (omega (arith, mul-le-mul h (natAbs-le a low))))
-
-  machine-factor : toZ w64 m ≡ pos m
-  machine-factor = toZ-pos w64 (omega arith)
-
   pub times-asks : SFits w64 (toZ w64 m *ℤ read a)
-  times-asks = rw (machine-factor, toZ-ofZ f) product-fits
+  times-asks = product-asks (fits-size w64 (pos m) (omega arith)) f h (natAbs-le a low) (omega arith)
 
   pub times-is : {i x : ℕ} (g : ℤ) → ¬ (i ≡ x) → read (toZ w64 m *ℤ read a) ≡ cond (eqb i x) g (pos m *ℤ a)
   times-is {i} {x} g n =
-      ap read (ap₂ _*ℤ_ machine-factor (toZ-ofZ f)) ∙ toZ-ofZ product-fits
+      product-is (fits-size w64 (pos m) (omega arith)) f h (natAbs-le a low) (omega arith)
       ∙ sym (ap (λ (b : Bool). cond b g (pos m *ℤ a)) (ne-eqb i x n))
 
--- ---- the factor of x times the word that is put in, added to the word or to 0
+-- the factor of x times the word that is put in, added to 0 or to the word
+pub plus-setting : {i x : ℕ} (a y : ℤ) → i ≡ x → y ≡ cond (eqb i x) (pos 0) a +ℤ y
+plus-setting {i} {x} a y e = sym (ap (λ (b : Bool). cond b (pos 0) a +ℤ y) (eq-eqb i x e) ∙ +ℤ-idl y)
 
--- 2^31 times 2^32 - 1, and a word more, is the most that 64 bits hold
-abbrev most-product : ℕ
-most-product = 9223372034707292160
-
-sub-fits : (a b : ℕ) (t : Bool) → ltb a b ≡ t → a < 2 ^ 63 → b ≤ 2 ^ 63
-    → mag (cond t (negsuc (b - suc a)) (pos (a - b))) < 2 ^ 63
-sub-fits a b true e f g = let h = ltb-true a b e in omega arith
-sub-fits a b false e f g = omega arith
-
-word-added : (a p : ℤ) → mag a < 2147483648 → natAbs p ≤ most-product → mag (a +ℤ p) < 2 ^ 63
-word-added (pos a) (pos b) f g = omega arith
-word-added (pos a) (negsuc b) f g = sub-fits a (suc b) (ltb a (suc b)) refl (omega arith) (omega arith)
-word-added (negsuc a) (pos b) f g = sub-fits b (suc a) (ltb b (suc a)) refl (omega arith) (omega arith)
-word-added (negsuc a) (negsuc b) f g = omega arith
-
-module _ {f b : ℤ} (g : SFits w64 f) (h : SFits w64 b) (low : natAbs f ≤ most-word) (put : natAbs b ≤ most-put) where
-  put-size : natAbs (f *ℤ b) ≤ most-product
-  put-size = rw (size-mul f b) (mul-le-mul low put)
-
-  put-fits : SFits w64 (f *ℤ b)
-  put-fits = fits-size w64 (f *ℤ b) (omega (arith, put-size))
-
-  pub put-asks : SFits w64 (read f *ℤ read b)
-  put-asks = rw (toZ-ofZ g, toZ-ofZ h) put-fits
-
-  put-is : read (read f *ℤ read b) ≡ f *ℤ b
-  put-is = ap read (ap₂ _*ℤ_ (toZ-ofZ g) (toZ-ofZ h)) ∙ toZ-ofZ put-fits
-
-  pub plus-setting : {i x : ℕ} (a : ℤ) → i ≡ x → read (read f *ℤ read b) ≡ cond (eqb i x) (pos 0) a +ℤ f *ℤ b
-  plus-setting {i} {x} a e =
-      put-is ∙ sym (+ℤ-idl (f *ℤ b)) ∙ sym (ap (λ (c : Bool). cond c (pos 0) a +ℤ f *ℤ b) (eq-eqb i x e))
-
-  module _ {a : ℤ} (k : SFits w64 a) (word : mag a < 2147483648) where
-    plus-fits : SFits w64 (a +ℤ f *ℤ b)
-    plus-fits = record { sfits = word-added a (f *ℤ b) word put-size }
-
-    pub plus-asks : SFits w64 (read a +ℤ read (read f *ℤ read b))
-    plus-asks = rw (toZ-ofZ k, put-is) plus-fits
-
-    pub plus-is : {i x : ℕ} → ¬ (i ≡ x)
-        → read (read a +ℤ read (read f *ℤ read b)) ≡ cond (eqb i x) (pos 0) a +ℤ f *ℤ b
-    plus-is {i} {x} n =
-        ap read (ap₂ _+ℤ_ (toZ-ofZ k) put-is) ∙ toZ-ofZ plus-fits
-        ∙ sym (ap (λ (c : Bool). cond c (pos 0) a +ℤ f *ℤ b) (ne-eqb i x n))
+pub plus-other : {i x : ℕ} (a y : ℤ) → ¬ (i ≡ x) → a +ℤ y ≡ cond (eqb i x) (pos 0) a +ℤ y
+plus-other {i} {x} a y n = sym (ap (λ (b : Bool). cond b (pos 0) a +ℤ y) (ne-eqb i x n))

@@ -1,14 +1,14 @@
 -- Sizes of integers, which show that a signed number fits a width.
 -- Assumes nothing.
-use mathlib.Core.Path.{_≡_, refl}
+use mathlib.Core.Path.{_≡_, refl, sym, ap, _∙_}
 use mathlib.Core.Bool.{Bool, true, false, cond}
-use Prim.Native.Nat.{ℕ, zero, suc, _+_, _-_, _*_, _/_, _^_, _<_, _≤_}
+use Prim.Native.Nat.{ℕ, suc, _+_, _-_, _*_, _/_, _^_, _<_, _≤_}
 use native.Mathlib.Nat.{le-refl, le-trans, div-le-self}
 use native.Mathlib.Omega.{arith}
 use borrow.Author.Needs.{sfits-of}
 use borrow.Author.Tests.{ltb-true}
 use lib.Dec.{ltb}
-use lib.IntN.{ℤ, pos, negsuc, natAbs, _+ℤ_, _*ℤ_}
+use lib.IntN.{ℤ, pos, negsuc, negℤ, natAbs, _+ℤ_, _-ℤ_, _*ℤ_}
 use lib.Signed.{mag, natAbs-le, quotZ}
 use mir.Syntax.{Width, w32, w64}
 use mir.Val.{SFits, toZ, ofZ, hbits}
@@ -40,6 +40,9 @@ size-add (pos a) (pos b) = le-refl (a + b)
 size-add (pos a) (negsuc b) = size-sub a (suc b) (ltb a (suc b)) refl
 size-add (negsuc a) (pos b) = let h = size-sub b (suc a) (ltb b (suc a)) refl in omega arith
 size-add (negsuc a) (negsuc b) = omega arith
+
+pub size-less : (a b : ℤ) → natAbs (a -ℤ b) ≤ natAbs a + natAbs b
+size-less a b = rw (← (size-neg b)) (size-add a (negℤ b))
 
 -- division rounds toward zero
 pub size-quot : (a d : ℤ) → natAbs (quotZ a d) ≤ natAbs a
@@ -79,3 +82,7 @@ again-below w f h = rw (toZ-ofZ f) h
 -- of what a call gives the bound alone is known
 pub again-result : {n : ℕ} (z : ℤ) → mag z < 2 ^ hbits w64 → natAbs z ≤ n → natAbs (toZ w64 (ofZ w64 z)) ≤ n
 again-result z f h = again w64 (sfits-of {z = z} f) h
+
+-- a number is known by its bits
+pub by-bits : {z : ℤ} {n : ℕ} → SFits w64 z → ofZ w64 z ≡ n → z ≡ toZ w64 n
+by-bits f e = sym (toZ-ofZ f) ∙ ap (toZ w64) e

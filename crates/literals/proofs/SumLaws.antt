@@ -2,18 +2,18 @@
 -- Assumes nothing.
 use mathlib.Core.Path.{_≡_, refl, sym, ap, ap₂, _∙_, subst}
 use mathlib.Core.Bool.{Bool, true, false, not, cond, _&&_}
-use mathlib.Core.List.{List, [], _∷_}
+use mathlib.Core.List.{List}
 use Prim.Native.Nat.{ℕ, _+_, _<_, _≤_}
 use native.Mathlib.Numerals.{add-one}
 use native.Mathlib.Omega.{arith}
 use lib.Dec.{T, eqb}
-use lib.IntN.{ℤ, pos, negsuc, natAbs, _+ℤ_, _*ℤ_}
+use lib.IntN.{ℤ, pos, natAbs, _+ℤ_, _*ℤ_}
 use lib.ListN.{length, getD, drop}
 use lib.Seq.{drop-cons}
-use lib.Signed.{ltZ}
 use mir.Syntax.{w32, w64}
 use mir.Val.{SFits, toZ, ofZ}
 use mir.Facts.{toZ-ofZ}
+use Rattle.whole.proofs.Tests.{never}
 use Rattle.whole.specs.Integers.{within}
 use Rattle.rules.specs.Sum.{Sum, limit, all-within}
 use Rattle.rules.specs.Eliminate.{most-period}
@@ -21,8 +21,7 @@ use Rattle.literals.specs.Rows.{row-word, most-word, most-put, Tame, Mak
 use Rattle.literals.specs.declared.row.Row.{Row}
 use Rattle.literals.specs.declared.row.Row.the-variants.{Times, Plus}
 use Rattle.literals.proofs.Sizes.{read, again, fits-size}
-use Rattle.literals.proofs.Ranges.{never, under, over, inside}
-use Rattle.literals.proofs.Terms.{within-at, listed}
+use Rattle.literals.proofs.Sevens.{within-at, listed}
 
 -- ---- one word
 
@@ -55,24 +54,6 @@ pub put-small : (u : Sum) (i : ℕ) {b : ℤ} → SFits w64 b → b ≡ getD u i
     → natAbs (read b) ≤ most-put
 put-small u i f e t = again w64 f (subst (λ (z : ℤ). natAbs z ≤ most-put) (sym e) (within-at most-put u i t))
 
--- ---- its range
-
-module _ {z : ℤ} (f : SFits w64 z) where
-  low : {b : Bool} → ltZ (read z) (negsuc 2147483646) ≡ b → ltZ z (negsuc 2147483646) ≡ b
-  low e = ap (λ (y : ℤ). ltZ y (negsuc 2147483646)) (sym (toZ-ofZ f)) ∙ e
-
-  high : {b : Bool} → ltZ (pos limit) (read z) ≡ b → ltZ (pos limit) z ≡ b
-  high e = ap (ltZ (pos limit)) (sym (toZ-ofZ f)) ∙ e
-
-  pub limit-under : ltZ (read z) (negsuc 2147483646) ≡ true → false ≡ within limit z
-  limit-under e = sym (under 2147483646 z (low e))
-
-  pub limit-over : ltZ (pos limit) (read z) ≡ true → false ≡ within limit z
-  limit-over e = sym (over limit z (high e))
-
-  pub limit-inside : ltZ (read z) (negsuc 2147483646) ≡ false → ltZ (pos limit) (read z) ≡ false → true ≡ within limit z
-  limit-inside e h = sym (inside 2147483646 z (low e) (high h))
-
 -- ---- all seven
 
 opened : (n : ℕ) (z : List ℤ) (i : ℕ) → i < length z
@@ -82,7 +63,7 @@ opened n z i h = rw (add-one i) (ap (all-within n) (drop-cons z i (pos 0) h))
 
 module _ {row : Row} {ws : List ℤ} {at : ℕ} {u z : Sum} (made : Makes row ws at u z) where
   module _ {i : ℕ} (less : i < 7) where
-    made-word : {w : ℤ} → w ≡ row-word row i (getD ws (at + i) (pos 0)) (getD u i (pos 0)) → w ≡ getD z i (pos 0)
+    pub made-word : {w : ℤ} → w ≡ row-word row i (getD ws (at + i) (pos 0)) (getD u i (pos 0)) → w ≡ getD z i (pos 0)
     made-word e = e ∙ sym (made .each i less)
 
     judged : {w : ℤ} {b : Bool} → SFits w64 w → w ≡ row-word row i (getD ws (at + i) (pos 0)) (getD u i (pos 0))
@@ -133,26 +114,3 @@ module _ {row : Row} {ws : List ℤ} {at : ℕ} {u : Sum} (h : SomeWithin row ws
 
   pub narrow-is : toZ w32 (ofZ w32 (read w)) ≡ row-word row i (getD ws (at + i) (pos 0)) (getD u i (pos 0))
   narrow-is = ap (λ (z : ℤ). toZ w32 (ofZ w32 z)) (toZ-ofZ f) ∙ toZ-ofZ narrow-fits ∙ e
-
--- the seven, as an array holds them
-pub made-is : {row : Row} {ws : List ℤ} {at : ℕ} {u : Sum} {a b c d e f g : ℤ}
-    → SFits w32 a → SFits w32 b → SFits w32 c → SFits w32 d → SFits w32 e → SFits w32 f → SFits w32 g
-    → a ≡ row-word row 0 (getD ws (at + 0) (pos 0)) (getD u 0 (pos 0))
-    → b ≡ row-word row 1 (getD ws (at + 1) (pos 0)) (getD u 1 (pos 0))
-    → c ≡ row-word row 2 (getD ws (at + 2) (pos 0)) (getD u 2 (pos 0))
-    → d ≡ row-word row 3 (getD ws (at + 3) (pos 0)) (getD u 3 (pos 0))
-    → e ≡ row-word row 4 (getD ws (at + 4) (pos 0)) (getD u 4 (pos 0))
-    → f ≡ row-word row 5 (getD ws (at + 5) (pos 0)) (getD u 5 (pos 0))
-    → g ≡ row-word row 6 (getD ws (at + 6) (pos 0)) (getD u 6 (pos 0))
-    → (z : Sum) → Makes row ws at u z
-    → (toZ w32 (ofZ w32 a) ∷ toZ w32 (ofZ w32 b) ∷ toZ w32 (ofZ w32 c) ∷ toZ w32 (ofZ w32 d)
-    ∷ toZ w32 (ofZ w32 e) ∷ toZ w32 (ofZ w32 f) ∷ toZ w32 (ofZ w32 g) ∷ []) ≡ z
-made-is fa fb fc fd fe ff fg pa pb pc pd pe pf pg z m =
-    ap₂ _∷_ (toZ-ofZ fa ∙ made-word m (omega arith) pa)
-    (ap₂ _∷_ (toZ-ofZ fb ∙ made-word m (omega arith) pb)
-    (ap₂ _∷_ (toZ-ofZ fc ∙ made-word m (omega arith) pc)
-    (ap₂ _∷_ (toZ-ofZ fd ∙ made-word m (omega arith) pd)
-    (ap₂ _∷_ (toZ-ofZ fe ∙ made-word m (omega arith) pe)
-    (ap₂ _∷_ (toZ-ofZ ff ∙ made-word m (omega arith) pf)
-    (ap₂ _∷_ (toZ-ofZ fg ∙ made-word m (omega arith) pg) refl))))))
-    ∙ sym (listed z (m .seven))

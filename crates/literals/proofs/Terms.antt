@@ -1,52 +1,24 @@
 -- The value of a sum, added up term by term at 64 bits.
 -- Assumes nothing.
-use mathlib.Core.Path.{_≡_, refl, sym, ap, _∙_}
+use mathlib.Core.Path.{_≡_, sym, ap, _∙_}
 use mathlib.Core.List.{List, [], _∷_}
-use Prim.Native.Nat.{ℕ, zero, suc, _+_, _-_, _*_, _^_, _<_, _≤_}
+use Prim.Native.Nat.{ℕ, _+_, _-_, _*_, _^_, _<_, _≤_}
 use native.Mathlib.Nat.{mul-le-mul}
 use native.Mathlib.Omega.{arith}
 use borrow.Author.Needs.{sfits-of}
-use lib.Dec.{T, leb→le, lit<}
+use lib.Dec.{lit<}
 use lib.IntN.{ℤ, pos, natAbs, _+ℤ_, _*ℤ_}
 use lib.ListN.{length, getD, take, drop, length-take, length-drop}
-use lib.Signed.{mag}
 use lib.Seq.{getD-drop, getD-take}
+use lib.Signed.{mag}
 use mir.Syntax.{w32, w64}
 use mir.Val.{SFits, toZ, ofZ, hbits}
 use mir.Facts.{toZ-ofZ}
-use Rattle.whole.specs.Integers.{within}
-use Rattle.whole.proofs.Tests.{T-and}
-use Rattle.rules.specs.Sum.{all-within, dot, value}
+use Rattle.rules.specs.Sum.{dot, value}
 use Rattle.rules.specs.Match.{most-value, choice}
 use Rattle.literals.specs.Literal.{most-term}
-use Rattle.literals.proofs.Sizes.{again, wide-is, size-mul, size-add, size-of, fits-size}
-
-pub within-at : (n : ℕ) (zs : List ℤ) (i : ℕ) → T (all-within n zs) → natAbs (getD zs i (pos 0)) ≤ n
-unfolding all-within
-within-at n [] i t = omega arith
-within-at n (z ∷ zs) zero t = leb→le (natAbs z) n (T-and (within n z) (all-within n zs) .0 t .0)
-within-at n (z ∷ zs) (suc i) t = within-at n zs i (T-and (within n z) (all-within n zs) .0 t .1)
-
--- each of the six, as a call passes it on, is within the limit
-pub record Small (s1 s2 s3 s4 s5 s6 : ℤ) : Type 0 where
-  pub first : natAbs (toZ w32 (ofZ w32 s1)) ≤ most-value
-  pub second : natAbs (toZ w32 (ofZ w32 s2)) ≤ most-value
-  pub third : natAbs (toZ w32 (ofZ w32 s3)) ≤ most-value
-  pub fourth : natAbs (toZ w32 (ofZ w32 s4)) ≤ most-value
-  pub fifth : natAbs (toZ w32 (ofZ w32 s5)) ≤ most-value
-  pub sixth : natAbs (toZ w32 (ofZ w32 s6)) ≤ most-value
-
-pub all-small : {s1 s2 s3 s4 s5 s6 : ℤ}
-    → SFits w32 s1 → SFits w32 s2 → SFits w32 s3 → SFits w32 s4 → SFits w32 s5 → SFits w32 s6
-    → T (all-within most-value (s1 ∷ s2 ∷ s3 ∷ s4 ∷ s5 ∷ s6 ∷ [])) → Small s1 s2 s3 s4 s5 s6
-all-small f1 f2 f3 f4 f5 f6 t = record {
-  first = again w32 f1 (within-at _ _ 0 t);
-  second = again w32 f2 (within-at _ _ 1 t);
-  third = again w32 f3 (within-at _ _ 2 t);
-  fourth = again w32 f4 (within-at _ _ 3 t);
-  fifth = again w32 f5 (within-at _ _ 4 t);
-  sixth = again w32 f6 (within-at _ _ 5 t);
-}
+use Rattle.literals.proofs.Sizes.{wide-is, size-mul, size-add, size-of, fits-size}
+use Rattle.literals.proofs.Sevens.{listed}
 
 -- ---- one term
 
@@ -83,20 +55,6 @@ module _ {a s : ℤ} (f : SFits w32 a) (g : SFits w32 s) (low : natAbs s ≤ mos
         (ap (λ c. c *ℤ s +ℤ x) e, sum-size)
 
 -- ---- the seven
-
--- a list of seven, word by word
-pub listed : (l : List ℤ) → length l ≡ 7
-    → l ≡ getD l 0 (pos 0) ∷ getD l 1 (pos 0) ∷ getD l 2 (pos 0) ∷ getD l 3 (pos 0)
-    ∷ getD l 4 (pos 0) ∷ getD l 5 (pos 0) ∷ getD l 6 (pos 0) ∷ []
-listed [] h = absurd (omega arith)
-listed (a ∷ []) h = absurd (omega arith)
-listed (a ∷ b ∷ []) h = absurd (omega arith)
-listed (a ∷ b ∷ c ∷ []) h = absurd (omega arith)
-listed (a ∷ b ∷ c ∷ d ∷ []) h = absurd (omega arith)
-listed (a ∷ b ∷ c ∷ d ∷ e ∷ []) h = absurd (omega arith)
-listed (a ∷ b ∷ c ∷ d ∷ e ∷ f ∷ []) h = absurd (omega arith)
-listed (a ∷ b ∷ c ∷ d ∷ e ∷ f ∷ g ∷ []) h = refl
-listed (a ∷ b ∷ c ∷ d ∷ e ∷ f ∷ g ∷ k ∷ l) h = absurd (omega arith)
 
 module _ (ws : List ℤ) (at : ℕ) where
   abbrev word : ℕ → ℤ

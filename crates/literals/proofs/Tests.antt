@@ -49,18 +49,33 @@ module _ {k : ℕ} {z : ℤ} (f : SFits w64 z) (low : 1 ≤ k) (high : k ≤ lim
   pub divides-is : eqb (ofZ w64 (remZ (toZ w64 (ofZ w64 z)) (toZ w64 k))) 0 ≡ divides k z
   divides-is = rw (toZ-ofZ f, divisor-is) (rest-zero k z small)
 
--- ---- the test of a kind
+-- ---- the test that a kind is
 
-same-test : {k d : ℕ} {z : ℤ} {r : Bool}
-    → SFits w64 z → r ≡ divides k (toZ w64 (ofZ w64 z)) → k ≡ d → r ≡ divides d z
-same-test {k} {z = z} f e p = e ∙ ap (divides k) (toZ-ofZ f) ∙ ap (λ (d : ℕ). divides d z) p
+pub positive-test : (t : Test) → 5 ≡ test-kind t → positive ≡ t
+positive-test positive e = refl
+positive-test (divisible true d) e = absurd (omega arith)
+positive-test (divisible false d) e = absurd (omega arith)
+positive-test is-zero e = absurd (omega arith)
+
+module _ {kind k : ℕ} (z : ℤ) where
+  pub positive-is : kind ≡ 5 → (t : Test) → Marked kind k t → ltZ (pos 0) z ≡ passes t z
+  positive-is e t m = ap (λ (t : Test). passes t z) (positive-test t (sym e ∙ m .same-kind))
+
+  pub divided-is : kind ≡ 6 → (t : Test) → Marked kind k t → divides k z ≡ passes t z
+  divided-is e positive m = absurd (omega (arith, m .same-kind))
+  divided-is e (divisible true d) m = ap (λ (n : ℕ). divides n z) (m .same-divisor)
+  divided-is e (divisible false d) m = absurd (omega (arith, m .same-kind))
+  divided-is e is-zero m = absurd (omega (arith, m .same-kind))
+
+  pub undivided-is : kind ≡ 7 → (t : Test) → Marked kind k t → not (divides k z) ≡ passes t z
+  undivided-is e positive m = absurd (omega (arith, m .same-kind))
+  undivided-is e (divisible true d) m = absurd (omega (arith, m .same-kind))
+  undivided-is e (divisible false d) m = ap (λ (n : ℕ). not (divides n z)) (m .same-divisor)
+  undivided-is e is-zero m = absurd (omega (arith, m .same-kind))
 
 module _ {kind k : ℕ} {z : ℤ} (f : SFits w64 z) where
   pub passes-positive : kind ≡ 5 → (t : Test) → Marked kind k t → ltZ (pos 0) (toZ w64 (ofZ w64 z)) ≡ passes t z
-  passes-positive e positive m = rw (toZ-ofZ f)
-  passes-positive e (divisible true d) m = absurd (omega (arith, m .same-kind))
-  passes-positive e (divisible false d) m = absurd (omega (arith, m .same-kind))
-  passes-positive e is-zero m = absurd (omega (arith, m .same-kind))
+  passes-positive e t m = rw (toZ-ofZ f) (positive-is z e t m)
 
   pub passes-zero : kind ≡ 10 → (t : Test) → Marked kind k t → eqb (ofZ w64 z) 0 ≡ passes t z
   passes-zero e positive m = absurd (omega (arith, m .same-kind))
@@ -70,21 +85,26 @@ module _ {kind k : ℕ} {z : ℤ} (f : SFits w64 z) where
 
   pub passes-divisible : ¬ (kind ≡ 5) → ¬ (kind ≡ 10) → {r : Bool} → r ≡ divides k (toZ w64 (ofZ w64 z))
       → (t : Test) → Marked kind k t → Bool·beq r (eqb kind 6) ≡ passes t z
-  passes-divisible n5 n10 e positive m = absurd (n5 (m .same-kind))
-  passes-divisible n5 n10 {r} e (divisible true d) m =
-      ap (Bool·beq r) (eq-eqb kind 6 (m .same-kind)) ∙ kept r ∙ same-test f e (m .same-divisor)
+  passes-divisible n5 n10 {r} e t m =
+      ap (λ (b : Bool). Bool·beq b (eqb kind 6)) (e ∙ ap (divides k) (toZ-ofZ f)) ∙ by t m
     where
-      kept : (b : Bool) → Bool·beq b true ≡ b
-      kept true = refl
-      kept false = refl
-  passes-divisible n5 n10 {r} e (divisible false d) m =
-      ap (Bool·beq r) (ne-eqb kind 6 (λ six. omega (arith, m .same-kind))) ∙ turned r
-      ∙ ap not (same-test f e (m .same-divisor))
-    where
-      turned : (b : Bool) → Bool·beq b false ≡ not b
-      turned true = refl
-      turned false = refl
-  passes-divisible n5 n10 e is-zero m = absurd (n10 (m .same-kind))
+      six : (b : Bool) → Bool·beq b true ≡ b
+      six true = refl
+      six false = refl
+
+      seven : (b : Bool) → Bool·beq b false ≡ not b
+      seven true = refl
+      seven false = refl
+
+      by : (t : Test) → Marked kind k t → Bool·beq (divides k z) (eqb kind 6) ≡ passes t z
+      by positive m = absurd (n5 (m .same-kind))
+      by (divisible true d) m =
+          ap (Bool·beq (divides k z)) (eq-eqb kind 6 (m .same-kind)) ∙ six (divides k z)
+          ∙ divided-is z (m .same-kind) (divisible true d) m
+      by (divisible false d) m =
+          ap (Bool·beq (divides k z)) (ne-eqb kind 6 (λ six. omega (arith, m .same-kind))) ∙ seven (divides k z)
+          ∙ undivided-is z (m .same-kind) (divisible false d) m
+      by is-zero m = absurd (n10 (m .same-kind))
 
 -- a kind that is neither has a divisor, from 1 to the limit
 pub divisor-fair : {kind k : ℕ} → ¬ (kind ≡ 5) → ¬ (kind ≡ 10) → SomeTest kind k → (1 ≤ k) × (k ≤ limit)

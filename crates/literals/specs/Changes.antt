@@ -11,7 +11,7 @@ use Rattle.rules.specs.Sum.{Sum, factor, scale, put, limit, all-within}
 use Rattle.rules.specs.Rule.{Test, positive, divisible, is-zero, Rule, Constant, Literal}
 use Rattle.rules.specs.Steps.{multiplier, times, sign, scale-literal, far-literal, sum-at, body-at}
 use Rattle.rules.specs.Eliminate.{most-period}
-use Rattle.literals.specs.Literal.{LiteralAt}
+use Rattle.literals.specs.Literal.{SomeLiteral}
 use Rattle.literals.specs.Rows.{most-put}
 use Rattle.literals.specs.declared.change.Change.{Change}
 use Rattle.literals.specs.declared.change.Change.the-variants.{Same, Scaled, Far, Full}
@@ -20,6 +20,7 @@ use Rattle.literals.specs.declared.change.Settled.the-variants.{Yes, No}
 use Rattle.literals.specs.declared.row.Row.{Row}
 use Rattle.literals.specs.declared.row.Row.the-variants.{Times, Plus}
 
+-- what becomes of the literal that makes the test t of the sum s
 unfoldable pub becomes : Change → Sum → Test → Sum → Rule
 unfolding scale-literal body-at far-literal sum-at
 becomes Same u t s = Literal t s
@@ -80,9 +81,6 @@ row-of (Full x) s = Plus x (factor x s)
 
 -- some literal stands there, and what becomes of it is a literal whose numbers lie within the limit
 pub record SomeChanged (ws : List ℤ) (c : Change) (u : Sum) : Type 0 where
-  pub node : ℕ
-  pub test : Test
-  pub sum : Sum
-  pub at : LiteralAt ws node test sum
+  pub literal : SomeLiteral ws
   pub usable : Usable c u
-  pub within : T (all-within limit (changed-sum c u sum))
+  pub within : T (all-within limit (changed-sum c u (literal .sum)))

@@ -10,7 +10,7 @@ use Rattle.rules.specs.Sum.{Sum}
 use Rattle.rules.specs.Rule.{Test, positive, divisible, is-zero}
 use Rattle.rules.specs.Table.{literal-node, body, is-divisor}
 use Rattle.rules.specs.Laws.{DivisorOf}
-use Rattle.tables.proofs.Inversion.{test-kind}
+use Rattle.tables.specs.Reads.{test-kind}
 
 -- the most that a term a·s comes to: a word has a size of 2^31 at most, a value one of 500,000,000
 abbrev pub most-term : ℕ

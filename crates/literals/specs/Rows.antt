@@ -21,10 +21,11 @@ row-word (Plus x f) i a b = cond (eqb i x) (pos 0) a +ℤ f *ℤ b
 abbrev pub most-word : ℕ
 most-word = 2147483648
 
--- the words of u are those of a bound and a j: small enough that no product passes 64 bits
+-- the most that a word of a bound and a j comes to: one lies within the limit, the other is 4,096 at most
 abbrev pub most-put : ℕ
-most-put = 4294967295
+most-put = 2147487744
 
+-- no product of the row passes 64 bits
 abbrev pub Tame : Row → Type 0
 Tame (Times x g m) = m ≤ most-period
 Tame (Plus x f) = natAbs f ≤ most-word

@@ -11,7 +11,7 @@ ghost use Rattle.rules.specs.Sum.{Sum, limit, all-within, value as value-of};
 ghost use Rattle.rules.specs.Rule.{Test, passes as passes-test};
 ghost use Rattle.rules.specs.Match.{most-value, choice};
 ghost use Rattle.rules.specs.Calls.{words as words-of};
-ghost use Rattle.tables.proofs.Inversion.{test-kind};
+ghost use Rattle.tables.specs.Reads.{test-kind};
 ghost use Rattle.literals.specs.Literal.{most-term, start-of, Marked, SomeTest, LiteralAt, SomeLiteral};
 
 // The term of setting v in the sum from word `at` on, and x, which the terms behind it add up to. The term of c is that

@@ -8,30 +8,11 @@ use borrow.Author.Needs.{needs}
 use borrow.Fn.Kinds.{In}
 use borrow.Fn.PlainCycle.{Measures, is, falls, and}
 use lib.ListN.{length}
-use Rattle.judging.proofs.WalkLaws.{
-  Call,
-  further,
-  Kinded,
-  NotsFound,
-  JoinKind,
-  RightFound,
-  first-word,
-  constant-says,
-  literal-asks,
-  literal-says,
-  bind-says,
-  nots-asks,
-  entries-there,
-  bodies-there,
-  run-small,
-  run-shorter,
-  under-asks,
-  run-says,
-  next-node,
-  next-place,
-  right-asks,
-  right-entries-some,
-}
+use Rattle.judging.proofs.WalkLaws.{Call, call, further, Kinded, first-word}
+use Rattle.judging.proofs.WalkLaws.{constant-says, literal-asks, literal-says, bind-says}
+use Rattle.judging.proofs.NotLaws.{NotsFound, nots-asks, entries-there, bodies-there, run-small, run-shorter}
+use Rattle.judging.proofs.NotLaws.{under-asks, run-says}
+use Rattle.judging.proofs.JoinLaws.{JoinKind, RightFound, next-node, next-place, right-asks, right-entries-some}
 use Rattle.judging.proofs.SpineLaws.{
   Along,
   LeftJudged,
@@ -151,15 +132,9 @@ walk-calls t = (
 module _ (t : ℕ) where
   -- the call, and the way back to it from where the kind is read
   abbrev side-call : side-lts.Start (side-calls t) (side-at t) side.Post → Call
-  side-call c = let a = c .args in record {
-    entries = a .entries .now;
-    bodies = a .bodies .now;
-    node = a .node;
-    place = a .place;
-    far = a .far;
-    x = a .x;
-    shift = a .v .now;
-  }
+  side-call c =
+      let a = c .args in
+      call (a .entries .now) (a .bodies .now) (a .node) (a .place) (a .far) (a .x) (a .v .now)
 
   abbrev side-start : side-lts.After-natural (side-calls t) (side-at t) side.Post
       → side-lts.Start (side-calls t) (side-at t) side.Post
@@ -171,9 +146,6 @@ module _ (t : ℕ) where
 
   side-natural-requires : side-lts.Need-natural-requires (side-calls t) (side-at t) side.Post
   side-natural-requires c κs = let start = c .before .before in first-word (side-call start) (start .pre .1)
-
-  side-is-literal-requires : side-lts.Need-is-literal-requires (side-calls t) (side-at t) side.Post
-  side-is-literal-requires c κs = tt
 
   side-judge-requires : side-lts.Need-judge-requires (side-calls t) (side-at t) side.Post
   side-judge-requires c κs =
@@ -196,15 +168,9 @@ module _ (t : ℕ) where
 module _ (t : ℕ) where
   -- the call, and the ways back: to it from where the kind is read, to there from the nots, the literal and the join
   abbrev walk-call : walk-lts.Start (walk-calls t) (walk-at t) walk.Post → Call
-  walk-call c = let a = c .args in record {
-    entries = a .entries .now;
-    bodies = a .bodies .now;
-    node = a .node;
-    place = a .place;
-    far = a .far;
-    x = a .x;
-    shift = a .v .now;
-  }
+  walk-call c =
+      let a = c .args in
+      call (a .entries .now) (a .bodies .now) (a .node) (a .place) (a .far) (a .x) (a .v .now)
 
   abbrev walk-start : walk-lts.After-natural (walk-calls t) (walk-at t) walk.Post
       → walk-lts.Start (walk-calls t) (walk-at t) walk.Post
@@ -234,9 +200,6 @@ module _ (t : ℕ) where
   walk-natural-requires : walk-lts.Need-natural-requires (walk-calls t) (walk-at t) walk.Post
   walk-natural-requires c κs = let start = c .before .before in first-word (walk-call start) (start .pre .1)
 
-  walk-known-requires : walk-lts.Need-known-requires (walk-calls t) (walk-at t) walk.Post
-  walk-known-requires c κs = tt
-
   walk-returns : walk-lts.Need-returns (walk-calls t) (walk-at t) walk.Post
   walk-returns c = constant-says (kinded (c .before .before)) (c .before .if1 .taken) (c .known .ensures)
 
@@ -250,20 +213,8 @@ module _ (t : ℕ) where
   walk-sub-walk : walk-lts.Need-sub-walk (walk-calls t) (walk-at t) walk.Post
   walk-sub-walk c = entries-there (nots-found c)
 
-  walk-part-walk-start : walk-lts.Need-part-walk-start (walk-calls t) (walk-at t) walk.Post
-  walk-part-walk-start c = entries-there (nots-found c)
-
-  walk-part-walk-end : walk-lts.Need-part-walk-end (walk-calls t) (walk-at t) walk.Post
-  walk-part-walk-end c = search needs
-
   walk-sub-walk-2 : walk-lts.Need-sub-walk-2 (walk-calls t) (walk-at t) walk.Post
   walk-sub-walk-2 c = bodies-there (nots-found (c .before))
-
-  walk-part-walk-start-2 : walk-lts.Need-part-walk-start-2 (walk-calls t) (walk-at t) walk.Post
-  walk-part-walk-start-2 c = bodies-there (nots-found (c .before))
-
-  walk-part-walk-end-2 : walk-lts.Need-part-walk-end-2 (walk-calls t) (walk-at t) walk.Post
-  walk-part-walk-end-2 c = search needs
 
   walk-add-walk : walk-lts.Need-add-walk (walk-calls t) (walk-at t) walk.Post
   walk-add-walk c = omega (arith, run-small (nots-found (c .before .before)))
@@ -277,17 +228,11 @@ module _ (t : ℕ) where
       let counted = walk-start (run-kind run) .pre .0 in
       (omega (arith, counted, run-shorter (nots-found run)), under-asks (nots-found run))
 
-  walk-turned-requires : walk-lts.Need-turned-requires (walk-calls t) (walk-at t) walk.Post
-  walk-turned-requires c κs = tt
-
   walk-returns-2 : walk-lts.Need-returns-2 (walk-calls t) (walk-at t) walk.Post
   walk-returns-2 c =
       let inner = c .before in
       run-says (nots-found (inner .before .before .before)) (inner .walk .result) (c .turned .result)
       (inner .walk .ensures) (c .turned .ensures)
-
-  walk-is-literal-requires : walk-lts.Need-is-literal-requires (walk-calls t) (walk-at t) walk.Post
-  walk-is-literal-requires c κs = tt
 
   walk-judge-requires : walk-lts.Need-judge-requires (walk-calls t) (walk-at t) walk.Post
   walk-judge-requires c κs =
@@ -297,9 +242,6 @@ module _ (t : ℕ) where
   walk-returns-3 c =
       let told = c .before .before in
       literal-says (kinded (told-kind told)) (told .is-literal .ensures) (c .before .if3 .taken) (c .judge .ensures)
-
-  walk-neither-requires : walk-lts.Need-neither-requires (walk-calls t) (walk-at t) walk.Post
-  walk-neither-requires c κs = tt
 
   walk-returns-4 : walk-lts.Need-returns-4 (walk-calls t) (walk-at t) walk.Post
   walk-returns-4 c =
@@ -326,8 +268,7 @@ module _ (t : ℕ) where
 
 abbrev spine-Inv-loop : spine-lts.InvT-loop
 spine-Inv-loop kind entries bodies node place far x v before₀ from₀ start₀ n₀ p₀ before from start n p =
-    Along (record { entries = entries; bodies = bodies; node = node; place = place; far = far; x = x; shift = v })
-    kind before from start n p
+    Along (call entries bodies node place far x v) kind before from start n p
 
 abbrev spine-μ-loop : spine-lts.MeasureT-loop
 spine-μ-loop kind entries bodies node place far x v before₀ from₀ start₀ n₀ p₀ before from start n p =
@@ -337,15 +278,9 @@ module _ (t : ℕ) where
   -- the call, and the ways back: to it from the loop's head, to there from where the kind is read, the left side is
   -- judged and the right side is found
   abbrev spine-call : spine-lts.Start (spine-calls t) (spine-at t) spine.Post spine-Inv-loop spine-μ-loop → Call
-  spine-call c = let a = c .args in record {
-    entries = a .entries .now;
-    bodies = a .bodies .now;
-    node = a .node;
-    place = a .place;
-    far = a .far;
-    x = a .x;
-    shift = a .v .now;
-  }
+  spine-call c =
+      let a = c .args in
+      call (a .entries .now) (a .bodies .now) (a .node) (a .place) (a .far) (a .x) (a .v .now)
 
   abbrev spine-start : spine-lts.At-loop (spine-calls t) (spine-at t) spine.Post spine-Inv-loop spine-μ-loop
       → spine-lts.Start (spine-calls t) (spine-at t) spine.Post spine-Inv-loop spine-μ-loop
@@ -394,10 +329,6 @@ module _ (t : ℕ) where
       → (length (spine-start c .args .entries .now) ≤ 65540) × (length (spine-start c .args .bodies .now) ≤ 65540)
   few c = few-bytes (spine-call (spine-start c)) (spine-start c .pre .1 .some)
 
-  spine-known-requires : spine-lts.Need-known-requires (spine-calls t) (spine-at t) spine.Post
-      spine-Inv-loop spine-μ-loop
-  spine-known-requires c κs = tt
-
   spine-loop-holds : spine-lts.Need-loop-holds (spine-calls t) (spine-at t) spine.Post spine-Inv-loop spine-μ-loop
   spine-loop-holds c =
       let start = c .before .before .before in
@@ -405,14 +336,6 @@ module _ (t : ℕ) where
 
   spine-sub-natural : spine-lts.Need-sub-natural (spine-calls t) (spine-at t) spine.Post spine-Inv-loop spine-μ-loop
   spine-sub-natural c = c .loop .inv .bodies-low
-
-  spine-part-natural-start : spine-lts.Need-part-natural-start (spine-calls t) (spine-at t) spine.Post
-      spine-Inv-loop spine-μ-loop
-  spine-part-natural-start c = c .loop .inv .bodies-low
-
-  spine-part-natural-end : spine-lts.Need-part-natural-end (spine-calls t) (spine-at t) spine.Post
-      spine-Inv-loop spine-μ-loop
-  spine-part-natural-end c = search needs
 
   spine-natural-requires : spine-lts.Need-natural-requires (spine-calls t) (spine-at t) spine.Post
       spine-Inv-loop spine-μ-loop
@@ -433,25 +356,9 @@ module _ (t : ℕ) where
   spine-sub-side : spine-lts.Need-sub-side (spine-calls t) (spine-at t) spine.Post spine-Inv-loop spine-μ-loop
   spine-sub-side c = left-there (head (c .before) .loop .inv) (rest-is-join c) .0
 
-  spine-part-side-start : spine-lts.Need-part-side-start (spine-calls t) (spine-at t) spine.Post
-      spine-Inv-loop spine-μ-loop
-  spine-part-side-start c = left-there (head (c .before) .loop .inv) (rest-is-join c) .0
-
-  spine-part-side-end : spine-lts.Need-part-side-end (spine-calls t) (spine-at t) spine.Post spine-Inv-loop spine-μ-loop
-  spine-part-side-end c = search needs
-
   spine-sub-side-2 : spine-lts.Need-sub-side-2 (spine-calls t) (spine-at t) spine.Post spine-Inv-loop spine-μ-loop
   spine-sub-side-2 c =
       let more = c .before in left-there (head (more .before) .loop .inv) (rest-is-join more) .1
-
-  spine-part-side-start-2 : spine-lts.Need-part-side-start-2 (spine-calls t) (spine-at t) spine.Post
-      spine-Inv-loop spine-μ-loop
-  spine-part-side-start-2 c =
-      let more = c .before in left-there (head (more .before) .loop .inv) (rest-is-join more) .1
-
-  spine-part-side-end-2 : spine-lts.Need-part-side-end-2 (spine-calls t) (spine-at t) spine.Post
-      spine-Inv-loop spine-μ-loop
-  spine-part-side-end-2 c = search needs
 
   spine-add-side : spine-lts.Need-add-side (spine-calls t) (spine-at t) spine.Post spine-Inv-loop spine-μ-loop
   spine-add-side c = omega (arith, next-node (rest-is-join (c .before .before)))
@@ -466,14 +373,6 @@ module _ (t : ℕ) where
       let counted = spine-start (head (more .before)) .pre .0 in
       (omega (arith, counted, left-side-shorter along (rest-is-join more)), left-side-asks along (rest-is-join more))
 
-  spine-joined-requires : spine-lts.Need-joined-requires (spine-calls t) (spine-at t) spine.Post
-      spine-Inv-loop spine-μ-loop
-  spine-joined-requires c κs = tt
-
-  spine-settles-requires : spine-lts.Need-settles-requires (spine-calls t) (spine-at t) spine.Post
-      spine-Inv-loop spine-μ-loop
-  spine-settles-requires c κs = tt
-
   spine-returns : spine-lts.Need-returns (spine-calls t) (spine-at t) spine.Post spine-Inv-loop spine-μ-loop
   spine-returns c =
       let settling = c .before in
@@ -484,24 +383,8 @@ module _ (t : ℕ) where
   spine-sub-right : spine-lts.Need-sub-right (spine-calls t) (spine-at t) spine.Post spine-Inv-loop spine-μ-loop
   spine-sub-right c = head (one-more (c .before .before) .before) .loop .inv .entries-low
 
-  spine-part-right-start : spine-lts.Need-part-right-start (spine-calls t) (spine-at t) spine.Post
-      spine-Inv-loop spine-μ-loop
-  spine-part-right-start c = head (one-more (c .before .before) .before) .loop .inv .entries-low
-
-  spine-part-right-end : spine-lts.Need-part-right-end (spine-calls t) (spine-at t) spine.Post
-      spine-Inv-loop spine-μ-loop
-  spine-part-right-end c = search needs
-
   spine-sub-right-2 : spine-lts.Need-sub-right-2 (spine-calls t) (spine-at t) spine.Post spine-Inv-loop spine-μ-loop
   spine-sub-right-2 c = head (one-more (c .before .before .before) .before) .loop .inv .bodies-low
-
-  spine-part-right-start-2 : spine-lts.Need-part-right-start-2 (spine-calls t) (spine-at t) spine.Post
-      spine-Inv-loop spine-μ-loop
-  spine-part-right-start-2 c = head (one-more (c .before .before .before) .before) .loop .inv .bodies-low
-
-  spine-part-right-end-2 : spine-lts.Need-part-right-end-2 (spine-calls t) (spine-at t) spine.Post
-      spine-Inv-loop spine-μ-loop
-  spine-part-right-end-2 c = search needs
 
   spine-right-requires : spine-lts.Need-right-requires (spine-calls t) (spine-at t) spine.Post
       spine-Inv-loop spine-μ-loop
@@ -541,24 +424,8 @@ module _ (t : ℕ) where
   spine-sub-side-3 : spine-lts.Need-sub-side-3 (spine-calls t) (spine-at t) spine.Post spine-Inv-loop spine-μ-loop
   spine-sub-side-3 c = head (c .before) .loop .inv .entries-low
 
-  spine-part-side-start-3 : spine-lts.Need-part-side-start-3 (spine-calls t) (spine-at t) spine.Post
-      spine-Inv-loop spine-μ-loop
-  spine-part-side-start-3 c = head (c .before) .loop .inv .entries-low
-
-  spine-part-side-end-3 : spine-lts.Need-part-side-end-3 (spine-calls t) (spine-at t) spine.Post
-      spine-Inv-loop spine-μ-loop
-  spine-part-side-end-3 c = search needs
-
   spine-sub-side-4 : spine-lts.Need-sub-side-4 (spine-calls t) (spine-at t) spine.Post spine-Inv-loop spine-μ-loop
   spine-sub-side-4 c = head (c .before .before) .loop .inv .bodies-low
-
-  spine-part-side-start-4 : spine-lts.Need-part-side-start-4 (spine-calls t) (spine-at t) spine.Post
-      spine-Inv-loop spine-μ-loop
-  spine-part-side-start-4 c = head (c .before .before) .loop .inv .bodies-low
-
-  spine-part-side-end-4 : spine-lts.Need-part-side-end-4 (spine-calls t) (spine-at t) spine.Post
-      spine-Inv-loop spine-μ-loop
-  spine-part-side-end-4 c = search needs
 
   spine-side-requires-2 : spine-lts.Need-side-requires-2 (spine-calls t) (spine-at t) spine.Post
       spine-Inv-loop spine-μ-loop
@@ -576,87 +443,84 @@ module _ (t : ℕ) where
         along .some,
       )
 
-  spine-joined-requires-2 : spine-lts.Need-joined-requires-2 (spine-calls t) (spine-at t) spine.Post
-      spine-Inv-loop spine-μ-loop
-  spine-joined-requires-2 c κs = tt
-
   spine-returns-2 : spine-lts.Need-returns-2 (spine-calls t) (spine-at t) spine.Post spine-Inv-loop spine-μ-loop
   spine-returns-2 c =
       let last = c .before in
       let read = last .before .before .before .before in
       last-says (head read .loop .inv) {last = last .side2 .result} (last .side2 .ensures) (c .joined2 .ensures)
 
+-- where a part starts asks what its length asks; what asks nothing, or is found by search, is answered in place
 pub +side+spine+walk-spec : {M : Type 1} → statement M
 +side+spine+walk-spec = close μ-side μ-spine μ-walk
     (λ t. side-lts.spec (side-calls t) (side-at t) side.Post
     (side-natural-requires t)
-    (side-is-literal-requires t)
+    (λ c κs. tt)
     (side-judge-requires t)
     (side-returns t)
     (side-walk-requires t)
     (side-returns-2 t))
     (λ t. spine-lts.spec (spine-calls t) (spine-at t) spine.Post spine-Inv-loop spine-μ-loop
-    (spine-known-requires t)
+    (λ c κs. tt)
     (spine-loop-holds t)
     (spine-sub-natural t)
-    (spine-part-natural-start t)
-    (spine-part-natural-end t)
+    (spine-sub-natural t)
+    (λ c. search needs)
     (spine-natural-requires t)
     (spine-add-e t)
     (spine-add-b t)
     (spine-sub-side t)
-    (spine-part-side-start t)
-    (spine-part-side-end t)
+    (spine-sub-side t)
+    (λ c. search needs)
     (spine-sub-side-2 t)
-    (spine-part-side-start-2 t)
-    (spine-part-side-end-2 t)
+    (spine-sub-side-2 t)
+    (λ c. search needs)
     (spine-add-side t)
     (spine-add-side-2 t)
     (spine-side-requires t)
-    (spine-joined-requires t)
-    (spine-settles-requires t)
+    (λ c κs. tt)
+    (λ c κs. tt)
     (spine-returns t)
     (spine-sub-right t)
-    (spine-part-right-start t)
-    (spine-part-right-end t)
+    (spine-sub-right t)
+    (λ c. search needs)
     (spine-sub-right-2 t)
-    (spine-part-right-start-2 t)
-    (spine-part-right-end-2 t)
+    (spine-sub-right-2 t)
+    (λ c. search needs)
     (spine-right-requires t)
     (spine-add-from t)
     (spine-add-start t)
     (spine-loop-less t)
     (spine-loop-again t)
     (spine-sub-side-3 t)
-    (spine-part-side-start-3 t)
-    (spine-part-side-end-3 t)
+    (spine-sub-side-3 t)
+    (λ c. search needs)
     (spine-sub-side-4 t)
-    (spine-part-side-start-4 t)
-    (spine-part-side-end-4 t)
+    (spine-sub-side-4 t)
+    (λ c. search needs)
     (spine-side-requires-2 t)
-    (spine-joined-requires-2 t)
+    (λ c κs. tt)
     (spine-returns-2 t))
     λ t. walk-lts.spec (walk-calls t) (walk-at t) walk.Post
     (walk-natural-requires t)
-    (walk-known-requires t)
+    (λ c κs. tt)
     (walk-returns t)
     (walk-nots-requires t)
     (walk-mul-from t)
     (walk-sub-walk t)
-    (walk-part-walk-start t)
-    (walk-part-walk-end t)
+    (walk-sub-walk t)
+    (λ c. search needs)
     (walk-sub-walk-2 t)
-    (walk-part-walk-start-2 t)
-    (walk-part-walk-end-2 t)
+    (walk-sub-walk-2 t)
+    (λ c. search needs)
     (walk-add-walk t)
     (walk-add-walk-2 t)
     (walk-walk-requires t)
-    (walk-turned-requires t)
+    (λ c κs. tt)
     (walk-returns-2 t)
-    (walk-is-literal-requires t)
+    (λ c κs. tt)
     (walk-judge-requires t)
     (walk-returns-3 t)
-    (walk-neither-requires t)
+    (λ c κs. tt)
     (walk-returns-4 t)
     (walk-spine-requires t)
     (walk-returns-5 t)

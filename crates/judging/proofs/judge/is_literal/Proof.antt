@@ -2,27 +2,22 @@
 -- Assumes nothing.
 use mathlib.Core.Path.{_≡_, refl, sym, ap, subst}
 use mathlib.Core.Bool.{true, false, not}
-use Prim.Native.Nat.{ℕ, _/_, _<_}
+use Prim.Native.Nat.{ℕ, _/_}
 use native.Mathlib.Omega.{arith}
 use borrow.Author.Tests.{eq-eqb, ne-eqb}
 use lib.Dec.{T}
 use Rattle.rules.specs.Rule.{Quantifier, for-some, for-all, Test, positive, divisible, is-zero}
 use Rattle.tables.proofs.Inversion.{test-kind, bind-kind}
+use Rattle.tables.proofs.KindLaws.{literal-kinds}
 use Rattle.judging.proofs.judge.is_literal.Statement.{statement}
 use Rattle.judging.proofs.judge.is_literal.Tie as tie
 
 returns : tie.Need-returns
 returns c = record {
-  of-test = λ t e. absurd (omega (arith, e, test-kinds t));
+  of-test = λ t e. absurd (omega (arith, e, literal-kinds t));
   of-bind = λ q e. refl;
   is-high = λ e. absurd (subst T (sym e) tt);
 }
-  where
-    test-kinds : (t : Test) → 4 < test-kind t
-    test-kinds positive = omega arith
-    test-kinds (divisible true k) = omega arith
-    test-kinds (divisible false k) = omega arith
-    test-kinds is-zero = omega arith
 
 returns-2 : tie.Need-returns-2
 returns-2 c = record {

@@ -1,7 +1,7 @@
 -- `literal::judge` meets its contract: a truth value of the far-left body, or the literal that is kept.
 -- Assumes nothing.
 use Rattle.judging.proofs.SaidLaws.{says-throughout}
-use Rattle.judging.proofs.LiteralLaws.{some-literal, put-fair, value-folds, kept-says}
+use Rattle.judging.proofs.LiteralLaws.{put-fair, value-folds, kept-says}
 use borrow.Author.Needs.{needs}
 use Rattle.judging.proofs.literal.judge.Statement.{statement}
 use Rattle.judging.proofs.literal.judge.Tie as tie
@@ -12,7 +12,7 @@ put-into-requires c κs = search needs
 far-requires : tie.Need-far-requires
 far-requires c κs =
     let start = c .before .before in (
-      some-literal (start .pre),
+      start .pre .literal,
       put-fair (start .args .far) (start .args .x) (start .pre .setting) (c .put-into .ensures),
     )
 

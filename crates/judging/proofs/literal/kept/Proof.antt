@@ -2,7 +2,7 @@
 -- Assumes nothing.
 use mathlib.Core.Path.{refl}
 use native.Mathlib.Omega.{arith}
-use borrow.Author.Needs.{sfits-of}
+use borrow.Author.Needs.{sfits-of, needs}
 use denote.Ref.{now}
 use lib.IntN.{pos, _+ℤ_, _*ℤ_}
 use lib.Dec.{eqb}
@@ -14,16 +14,15 @@ use Rattle.literals.proofs.Sizes.{again}
 use Rattle.literals.proofs.Sizes as sizes
 use Rattle.literals.proofs.Literals.{literal-long, literal-marked, passes-asks}
 use Rattle.judging.proofs.SaidLaws.{says-value}
-use Rattle.judging.proofs.LiteralLaws.{some-literal, starts-inside, reach, one-folds, varying-says, settled-says}
-use borrow.Author.Needs.{needs}
+use Rattle.judging.proofs.LiteralLaws.{starts-inside, reach, one-folds, varying-says, settled-says}
 use Rattle.judging.proofs.literal.kept.Statement.{statement}
 use Rattle.judging.proofs.literal.kept.Tie as tie
 
 natural-requires : tie.Need-natural-requires
-natural-requires c κs = omega (arith, literal-long (some-literal (c .before .pre)))
+natural-requires c κs = omega (arith, literal-long (c .before .pre .literal))
 
 natural-requires-2 : tie.Need-natural-requires-2
-natural-requires-2 c κs = omega (arith, literal-long (some-literal (c .before .before .pre)))
+natural-requires-2 c κs = omega (arith, literal-long (c .before .before .pre .literal))
 
 divisor-one-requires : tie.Need-divisor-one-requires
 divisor-one-requires c κs = search needs
@@ -99,7 +98,7 @@ passing-requires c κs =
     let term = c .before .before .before in
     let second = term .before .before .before .before in
     let start = second .before .before .before in (
-      passes-asks (some-literal (start .pre)) (second .before .natural .ensures .1) (second .natural2 .ensures .1),
+      passes-asks (start .pre .literal) (second .before .natural .ensures .1) (second .natural2 .ensures .1),
       again w64 (sfits-of {z = c .moved .result} (c .moved .ok)) (c .moved .ensures .1),
       again w64 (sfits-of {z = term .term .result} (term .term .ok))
           (natAbs-le (term .term .result) (term .term .ensures .1)),

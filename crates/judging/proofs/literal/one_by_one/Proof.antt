@@ -10,9 +10,9 @@ use mir.Facts.{toZ-ofZ}
 use Rattle.rules.specs.Rule.{Test, passes}
 use Rattle.literals.specs.Literal.{Marked}
 use Rattle.literals.proofs.Sizes.{read, fits-size}
-use Rattle.judging.specs.Masks.{flag}
-use Rattle.judging.proofs.ProductLaws.{product-asks, sum-asks, sum-again, sum-small}
-use Rattle.judging.proofs.MaskLaws.{Taken, none-taken, one-taken, all-taken}
+use Rattle.literals.proofs.Products.{product-asks, sum-asks, sum-again, sum-small}
+use Rattle.judging.specs.Judging.{flag}
+use Rattle.judging.proofs.TakenLaws.{Taken, none-taken, one-taken, all-taken}
 use Rattle.judging.proofs.literal.one_by_one.Statement.{statement}
 use Rattle.judging.proofs.literal.one_by_one.Tie as tie
 
@@ -32,14 +32,14 @@ cast-passes c = fits-size w64 (pos (c .before .loop .i)) (omega arith)
 mul-passes : tie.Need-mul-passes Inv-loop μ-loop
 mul-passes c =
     let start = c .before .before in
-    product-asks (start .fits .c) (start .fits .f) (fits-size w64 (pos (c .before .loop .i)) (omega arith)) {p = 64}
-    (start .pre .1) (start .pre .2) (omega arith) (omega arith)
+    product-asks (start .fits .f) (fits-size w64 (pos (c .before .loop .i)) (omega arith)) {p = 64}
+    (start .pre .2) (omega arith) (omega arith)
 
 add-passes : tie.Need-add-passes Inv-loop μ-loop
 add-passes c =
     let start = c .before .before in
-    sum-asks (start .fits .c) (start .fits .f) (fits-size w64 (pos (c .before .loop .i)) (omega arith)) {p = 64}
-    (start .pre .1) (start .pre .2) (omega arith) (omega arith)
+    sum-asks (start .fits .f) (fits-size w64 (pos (c .before .loop .i)) (omega arith)) {p = 64}
+    (start .pre .2) (omega arith) (start .fits .c) (start .pre .1) (omega arith)
 
 passes-requires : tie.Need-passes-requires Inv-loop μ-loop
 passes-requires c κs =
@@ -47,8 +47,8 @@ passes-requires c κs =
       start .pre .0,
       omega (
         arith,
-        sum-small (start .fits .c) (start .fits .f) (fits-size w64 (pos (c .before .loop .i)) (omega arith))
-            {p = 64} (start .pre .1) (start .pre .2) (omega arith) (omega arith),
+        sum-small (start .fits .f) (fits-size w64 (pos (c .before .loop .i)) (omega arith)) {p = 64}
+            (start .pre .2) (omega arith) (start .fits .c) (start .pre .1) (omega arith),
       ),
     )
 
@@ -70,8 +70,8 @@ loop-again c =
       λ t marked. one-taken (λ n. passes t (read (start .args .c) +ℤ read (start .args .f) *ℤ pos n)) _ i _ _
           (tested .before .loop .inv .1 t marked) (omega arith)
           (c .before .passes .ensures t marked
-          ∙ ap (passes t) (sum-again (start .fits .c) (start .fits .f) (fits-size w64 (pos i) (omega arith)) {p = 64}
-          (start .pre .1) (start .pre .2) (omega arith) (omega arith)))
+          ∙ ap (passes t) (sum-again (start .fits .f) (fits-size w64 (pos i) (omega arith)) {p = 64}
+          (start .pre .2) (omega arith) (start .fits .c) (start .pre .1) (omega arith)))
           (c .with .ensures),
     )
 

@@ -1,12 +1,13 @@
 -- `literal::passing` meets its contract, by the kind and by f.
 -- Assumes nothing.
-use mathlib.Core.Path.{ap, _∙_}
+use mathlib.Core.Path.{_∙_}
 use native.Mathlib.Omega.{arith}
-use Prim.Native.Nat.{ℕ, _-_}
+use lib.IntN.{pos, _+ℤ_}
 use mir.Syntax.{w64}
-use Rattle.literals.proofs.Sizes.{again, again-below}
+use Rattle.whole.specs.Divides.{divides}
+use Rattle.literals.proofs.Sizes.{read, again, again-below, by-bits}
 use Rattle.literals.proofs.Tests.{divisor-fair}
-use Rattle.literals.proofs.ChangeLaws.{is-one, is-minus-one}
+use Rattle.judging.proofs.BitLaws.{opposite-is}
 use Rattle.judging.proofs.LiteralLaws.{passes-constant, passes-again, passes-rising, passes-falling}
 use Rattle.judging.proofs.LiteralLaws.{passes-divided, passes-undivided}
 use borrow.Author.Needs.{needs}
@@ -32,7 +33,7 @@ returns-2 : tie.Need-returns-2
 returns-2 c = λ t m i h.
     let start = c .before .before .before .before in
     c .rising .ensures i h ∙ passes-rising (start .fits .c) (start .fits .f) t i m (c .before .before .if2 .taken)
-    (is-one (start .fits .f) (c .before .if3 .taken))
+    (by-bits (start .fits .f) (c .before .if3 .taken))
 
 falling-requires : tie.Need-falling-requires
 falling-requires c κs = search needs
@@ -41,7 +42,7 @@ returns-3 : tie.Need-returns-3
 returns-3 c = λ t m i h.
     let start = c .before .before .before .before .before in
     c .falling .ensures i h ∙ passes-falling (start .fits .c) (start .fits .f) t i m
-    (c .before .before .before .if2 .taken) (is-minus-one (start .fits .f) (c .before .if4 .taken))
+    (c .before .before .before .if2 .taken) (by-bits (start .fits .f) (c .before .if4 .taken))
 
 one-by-one-requires : tie.Need-one-by-one-requires
 one-by-one-requires c κs = search needs
@@ -64,7 +65,7 @@ returns-5 : tie.Need-returns-5
 returns-5 c = λ t m i h.
     let start = c .before .before .before .before .before in
     c .multiples .ensures i h ∙ passes-divided (start .fits .c) (start .fits .f) t i m (c .before .if6 .taken)
-    (is-one (start .fits .f) (c .before .before .if5 .taken))
+    (by-bits (start .fits .f) (c .before .before .if5 .taken))
 
 multiples-requires-2 : tie.Need-multiples-requires-2
 multiples-requires-2 c κs =
@@ -82,9 +83,10 @@ returns-6 : tie.Need-returns-6
 returns-6 c = λ t m i h.
     let start = c .before .before .before .before .before .before .before in
     let multiples = c .before in
-    c .opposite .ensures i h ∙ ap (λ (b : ℕ). 1 - b) (multiples .multiples2 .ensures i h)
+    opposite-is _ _ (λ n. divides (start .args .k) (read (start .args .c) +ℤ pos n)) (multiples .multiples2 .ensures)
+    (c .opposite .ensures) i h
     ∙ passes-undivided (start .fits .c) (start .fits .f) t i m (multiples .before .if7 .taken)
-    (is-one (start .fits .f) (multiples .before .before .before .if5 .taken))
+    (by-bits (start .fits .f) (multiples .before .before .before .if5 .taken))
 
 one-by-one-requires-2 : tie.Need-one-by-one-requires-2
 one-by-one-requires-2 c κs = search needs

@@ -28,8 +28,7 @@ moved-requires c κs =
       record {
         long = reach .long;
         small = again w64 (start .fits .f) (reach .small);
-        seven = reach .seven;
-        within = reach .within;
+        shift = reach .shift;
       },
       c .loop-test .taken,
     )

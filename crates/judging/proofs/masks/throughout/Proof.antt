@@ -1,7 +1,7 @@
 -- `masks::throughout` meets its contract.
 -- Assumes nothing.
 use mathlib.Core.Path.{sym, ap, _∙_}
-use Rattle.judging.specs.Masks.{flag}
+use Rattle.judging.specs.Judging.{flag}
 use Rattle.judging.proofs.BitLaws.{bit-all, bit-none}
 use Rattle.judging.proofs.masks.throughout.Statement.{statement}
 use Rattle.judging.proofs.masks.throughout.Tie as tie

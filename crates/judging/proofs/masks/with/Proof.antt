@@ -1,6 +1,6 @@
 -- `masks::with` meets its contract.
 -- Assumes nothing.
-use Rattle.judging.proofs.MaskLaws.{set-there, unset-there}
+use Rattle.judging.proofs.TakenLaws.{set-there, unset-there}
 use borrow.Author.Needs.{needs}
 use Rattle.judging.proofs.masks.with.Statement.{statement}
 use Rattle.judging.proofs.masks.with.Tie as tie

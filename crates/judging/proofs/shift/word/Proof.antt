@@ -1,8 +1,7 @@
 -- `shift::word` meets its contract, by the place of the word.
 -- Assumes nothing.
-use borrow.Author.Needs.{sfits-of}
+use borrow.Author.Needs.{sfits-of, needs}
 use Rattle.judging.proofs.ShiftLaws.{first-asks, first-is, minus-asks, setting-is, other-is}
-use borrow.Author.Needs.{needs}
 use Rattle.judging.proofs.shift.word.Statement.{statement}
 use Rattle.judging.proofs.shift.word.Tie as tie
 
@@ -16,36 +15,31 @@ add-result : tie.Need-add-result
 add-result c =
     let start = c .before .before in
     let a = c .before .at in
-    first-asks (start .args .u .now) (start .args .j) (start .args .x) (start .args .i) (start .pre .1)
-    (start .pre .2) (sfits-of {z = a .result} (a .ok)) (a .ensures)
+    first-asks (start .pre) (sfits-of {z = a .result} (a .ok)) (a .ensures)
 
 returns : tie.Need-returns
 returns c =
     let start = c .before .before in
     let a = c .before .at in
-    first-is (start .args .u .now) (start .args .j) (start .args .x) (start .args .i) (start .pre .1)
-    (start .pre .2) (sfits-of {z = a .result} (a .ok)) (a .ensures) (start .pre .3) (c .if1 .taken)
+    first-is (start .pre) (sfits-of {z = a .result} (a .ok)) (a .ensures) (c .if1 .taken)
 
 sub-result : tie.Need-sub-result
 sub-result c =
     let start = c .before .before .before in
     let a = c .before .before .at in
-    minus-asks (start .args .u .now) (start .args .j) (start .args .x) (start .args .i) (start .pre .1)
-    (start .pre .2) (sfits-of {z = a .result} (a .ok)) (a .ensures)
+    minus-asks (start .pre) (sfits-of {z = a .result} (a .ok)) (a .ensures)
 
 returns-2 : tie.Need-returns-2
 returns-2 c =
     let start = c .before .before .before in
     let a = c .before .before .at in
-    setting-is (start .args .u .now) (start .args .j) (start .args .x) (start .args .i) (start .pre .1)
-    (start .pre .2) (sfits-of {z = a .result} (a .ok)) (a .ensures) (c .before .if1 .left) (c .if2 .taken)
+    setting-is (start .pre) (sfits-of {z = a .result} (a .ok)) (a .ensures) (c .before .if1 .left) (c .if2 .taken)
 
 returns-3 : tie.Need-returns-3
 returns-3 c =
     let start = c .before .before .before in
     let a = c .before .before .at in
-    other-is (start .args .u .now) (start .args .j) (start .args .x) (start .args .i) (start .pre .1)
-    (start .pre .2) (sfits-of {z = a .result} (a .ok)) (a .ensures) (c .before .if1 .left) (c .if2 .left)
+    other-is (start .pre) (sfits-of {z = a .result} (a .ok)) (a .ensures) (c .before .if1 .left) (c .if2 .left)
 
 pub word-spec : {M : Type 1} → statement M
 word-spec =

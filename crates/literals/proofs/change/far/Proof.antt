@@ -11,9 +11,9 @@ use mir.Syntax.{w64}
 use mir.Val.{ofZ}
 use denote.Enum.Declared.{tagOf}
 use Rattle.literals.proofs.change.Change.{the-type}
+use Rattle.literals.proofs.Sizes.{by-bits}
 use Rattle.literals.proofs.Literals.{literal-long, kind-read}
-use Rattle.literals.proofs.ChangeLaws.{far-fair, is-one, is-minus-one}
-use Rattle.literals.proofs.ChangeLaws.{stays, far-other, far-one, far-minus-one, far-neither}
+use Rattle.literals.proofs.ChangeLaws.{far-fair, stays, far-other, far-one, far-minus-one, far-neither}
 use Rattle.literals.proofs.change.far.Statement.{statement}
 use Rattle.literals.proofs.change.far.Tie as tie
 
@@ -49,7 +49,7 @@ returns-3 c = λ n t s l.
     let kind = c .before .before in
     let known = kind .before .before .before in
     far-one s (known .change .given .1) t (sym (kind .if1 .left) ∙ kind-read t l (kind .before .natural .ensures .1))
-    (sym (f .ensures .0 n t s l) ∙ is-one (sfits-of {z = f .result} (f .ok)) (c .if2 .taken))
+    (sym (f .ensures .0 n t s l) ∙ by-bits (sfits-of {z = f .result} (f .ok)) (c .if2 .taken))
 
 returns-4 : tie.Need-returns-4
 returns-4 c = λ n t s l.
@@ -58,7 +58,7 @@ returns-4 c = λ n t s l.
     let known = kind .before .before .before in
     far-minus-one s (known .change .given .1) t
     (sym (kind .if1 .left) ∙ kind-read t l (kind .before .natural .ensures .1))
-    (sym (f .ensures .0 n t s l) ∙ is-minus-one (sfits-of {z = f .result} (f .ok)) (c .if3 .taken))
+    (sym (f .ensures .0 n t s l) ∙ by-bits (sfits-of {z = f .result} (f .ok)) (c .if3 .taken))
 
 returns-5 : tie.Need-returns-5
 returns-5 c = λ n t s l.

@@ -17,7 +17,7 @@ made-requires c κs =
     let at = c .before .sum-at .ensures in
     let row = c .row-of .ensures in (
       readable (some .usable) (at .1) (row .1),
-      some-within some (at .0 _ _ _ (some .at)) (row .0 _ _ _ (some .at)),
+      some-within some (at .0 _ _ _ (some .literal .at)) (row .0 _ _ _ (some .literal .at)),
     )
 
 returns : tie.Need-returns

@@ -1,53 +1,51 @@
 -- `literal::value` meets its contract: the seven terms, each added to those behind it, are the value of the sum.
 -- Assumes nothing.
 use mathlib.Core.Path.{refl}
-use native.Mathlib.Omega.{arith}
 use lib.Dec.{lit<, lit≤}
 use lib.IntN.{pos}
 use denote.Ref.{now}
+use mir.Syntax.{w32}
 use Rattle.rules.specs.Calls.{words}
-use Rattle.literals.proofs.Sizes.{again-result}
-use Rattle.literals.proofs.Terms.{Small, all-small, chained, value-is}
+use Rattle.literals.proofs.Sizes.{again, again-result}
+use Rattle.literals.proofs.Sevens.{within-at}
+use Rattle.literals.proofs.Terms.{chained, value-is}
 use Rattle.literals.proofs.literal.value.Statement.{statement}
 use Rattle.literals.proofs.literal.value.Tie as tie
-
-small : (c : tie.Start) → Small (c .args .s1) (c .args .s2) (c .args .s3) (c .args .s4) (c .args .s5) (c .args .s6)
-small c = let f = c .fits in all-small (f .s1) (f .s2) (f .s3) (f .s4) (f .s5) (f .s6) (c .pre .1)
 
 plus-requires : tie.Need-plus-requires
 plus-requires c κs =
     let start = c .before in
-    (start .pre .0, lit< tt, omega (arith, small start), lit≤ tt)
+    (start .pre .0, lit< tt, again w32 (start .fits .s6) (within-at _ _ 5 (start .pre .1)), lit≤ tt)
 
 plus-requires-2 : tie.Need-plus-requires-2
 plus-requires-2 c κs =
     let start = c .before .before in
     let behind = again-result (c .plus .result) (c .plus .ok) (c .plus .ensures .1) in
-    (start .pre .0, lit< tt, omega (arith, small start), behind)
+    (start .pre .0, lit< tt, again w32 (start .fits .s5) (within-at _ _ 4 (start .pre .1)), behind)
 
 plus-requires-3 : tie.Need-plus-requires-3
 plus-requires-3 c κs =
     let start = c .before .before .before in
     let behind = again-result (c .plus2 .result) (c .plus2 .ok) (c .plus2 .ensures .1) in
-    (start .pre .0, lit< tt, omega (arith, small start), behind)
+    (start .pre .0, lit< tt, again w32 (start .fits .s4) (within-at _ _ 3 (start .pre .1)), behind)
 
 plus-requires-4 : tie.Need-plus-requires-4
 plus-requires-4 c κs =
     let start = c .before .before .before .before in
     let behind = again-result (c .plus3 .result) (c .plus3 .ok) (c .plus3 .ensures .1) in
-    (start .pre .0, lit< tt, omega (arith, small start), behind)
+    (start .pre .0, lit< tt, again w32 (start .fits .s3) (within-at _ _ 2 (start .pre .1)), behind)
 
 plus-requires-5 : tie.Need-plus-requires-5
 plus-requires-5 c κs =
     let start = c .before .before .before .before .before in
     let behind = again-result (c .plus4 .result) (c .plus4 .ok) (c .plus4 .ensures .1) in
-    (start .pre .0, lit< tt, omega (arith, small start), behind)
+    (start .pre .0, lit< tt, again w32 (start .fits .s2) (within-at _ _ 1 (start .pre .1)), behind)
 
 plus-requires-6 : tie.Need-plus-requires-6
 plus-requires-6 c κs =
     let start = c .before .before .before .before .before .before in
     let behind = again-result (c .plus5 .result) (c .plus5 .ok) (c .plus5 .ensures .1) in
-    (start .pre .0, lit< tt, omega (arith, small start), behind)
+    (start .pre .0, lit< tt, again w32 (start .fits .s1) (within-at _ _ 0 (start .pre .1)), behind)
 
 plus-requires-7 : tie.Need-plus-requires-7
 plus-requires-7 c κs =

@@ -3,7 +3,6 @@
 use borrow.Author.Needs.{needs, sfits-of}
 use Rattle.literals.proofs.RowLaws.{term-is}
 use Rattle.literals.proofs.Sizes.{wide-fits}
-use borrow.Author.Needs.{needs}
 use Rattle.literals.proofs.row.term.Statement.{statement}
 use Rattle.literals.proofs.row.term.Tie as tie
 
