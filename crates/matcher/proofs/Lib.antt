@@ -1,5 +1,4 @@
 pub mod Values
-pub mod TableLaws
+pub mod Shapes
 pub mod WalkLaws
-pub mod QuantifierLaws
 pub mod MatchedLaws

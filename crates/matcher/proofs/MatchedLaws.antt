@@ -18,10 +18,9 @@ use Rattle.rules.proofs.Meaning.{none-quantified}
 use Rattle.tables.specs.Checks.{Verdict}
 use Rattle.tables.specs.declared.check.Checked.{Checked}
 use Rattle.tables.specs.declared.check.Checked.the-variants.{Not}
-use Rattle.tables.proofs.Passed.{TableOf, table-formed}
+use Rattle.tables.proofs.Passed.{TableOf, table-formed, table-stands}
 use Rattle.matcher.specs.Matching.{Matchable}
 use Rattle.matcher.specs.Outcome.{matching-of, due-number}
-use Rattle.matcher.proofs.TableLaws.{rule-stands}
 
 -- a table that the check refuses
 pub table-refused : (l : List ℕ) (vs : List ℤ) (k : ℕ) {v : Checked} → v ≡ Not k → Verdict (rule-of l) v
@@ -33,7 +32,7 @@ module _ {l : List ℕ} {n : ℕ} {r : Rule} (t : TableOf l n r) where
   -- a rule without quantifiers is matched
   pub matchable : quantified r ≡ false → Matchable (words l) 0 (n + 1) r
   matchable e = record {
-    stands = rule-stands t;
+    stands = table-stands t;
     formed = table-formed t;
     free = none-quantified r (subst (λ (b : Bool). T (not b)) (sym e) tt);
   }

@@ -16,7 +16,7 @@ use Rattle.whole.proofs.Tests.{T-and}
 use Rattle.rules.specs.Sum.{all-within}
 use Rattle.rules.specs.Match.{most-value}
 use Rattle.literals.proofs.Sizes.{fits-size}
-use Rattle.literals.proofs.Ranges.{under, over, inside}
+use Rattle.literals.proofs.Ranges.{read-under, read-over, read-inside}
 use Rattle.literals.proofs.Literals.{values-again}
 
 -- a value that is in range, as the 32 bits that it is handed on in
@@ -60,21 +60,15 @@ values-read (a ∷ b ∷ c ∷ d ∷ e ∷ f ∷ g ∷ vs) h t = absurd (omega a
 -- ---- a value's range
 
 module _ (v : ℤ) (fits : SFits w32 v) (behind : Bool) where
-  low : (b : Bool) → ltZ (again v) (negsuc 499999999) ≡ b → ltZ v (negsuc 499999999) ≡ b
-  low b e = ap (λ (z : ℤ). ltZ z (negsuc 499999999)) (sym (toZ-ofZ fits)) ∙ e
-
-  high : (b : Bool) → ltZ (pos 500000000) (again v) ≡ b → ltZ (pos 500000000) v ≡ b
-  high b e = ap (ltZ (pos 500000000)) (sym (toZ-ofZ fits)) ∙ e
-
   pub under-range : ltZ (again v) (negsuc 499999999) ≡ true → false ≡ (within most-value v && behind)
-  under-range e = sym (ap (λ (b : Bool). b && behind) (under 499999999 v (low true e)))
+  under-range e = sym (ap (λ (b : Bool). b && behind) (read-under w32 499999999 fits e))
 
   pub over-range : ltZ (pos 500000000) (again v) ≡ true → false ≡ (within most-value v && behind)
-  over-range e = sym (ap (λ (b : Bool). b && behind) (over most-value v (high true e)))
+  over-range e = sym (ap (λ (b : Bool). b && behind) (read-over w32 499999999 fits e))
 
   pub in-range : ltZ (again v) (negsuc 499999999) ≡ false → ltZ (pos 500000000) (again v) ≡ false
       → behind ≡ (within most-value v && behind)
-  in-range e f = sym (ap (λ (b : Bool). b && behind) (inside 499999999 v (low false e) (high false f)))
+  in-range e f = sym (ap (λ (b : Bool). b && behind) (read-inside w32 499999999 fits e f))
 
 -- one value more
 pub and-behind : (v : ℤ) (vs : List ℤ) {b r : Bool} → SFits w32 v → r ≡ (within most-value (again v) && b)

@@ -1,5 +1,4 @@
 // Matching: whether a table's rule holds at six values.
 pub mod outcome;
-mod quantifiers;
 mod range;
 mod walk;

@@ -1,11 +1,15 @@
 // What matching answers: the number that refuses it, or whether the rule holds.
-use crate::quantifiers;
 use crate::range;
 use crate::walk;
 use tables::check;
 use tables::check::Checked;
+use tables::quantifiers;
+use tables::quantifiers::Found;
 ghost use mathlib.Core.Path.{_≡_};
 ghost use mathlib.Core.List.{[], _∷_};
+ghost use Rattle.rules.specs.Rule.{Rule};
+ghost use Rattle.rules.specs.Result.{given};
+ghost use Rattle.rules.specs.Chosen.{quantified as quantified-rule};
 ghost use Rattle.rules.specs.Calls.{rule-of};
 ghost use Rattle.tables.specs.Checks.{Verdict};
 ghost use Rattle.tables.specs.declared.check.Checked.the-variants.{Table};
@@ -15,6 +19,17 @@ pub enum Matched {
     Refused(u32),
     Holds,
     Fails,
+}
+
+// Whether the rule of a table that passed the check, of n nodes, has a quantifier.
+fn quantified(t: &[u8], n: usize) -> bool
+    requires { ⌜ Verdict (rule-of (now t)) (Table n) ⌝ }
+    ensures { λ r. ⌜ ((a : Rule) → rule-of (now (t .entry)) ≡ given a → r ≡ quantified-rule a) ⌝ }
+{
+    match quantifiers::last(t, n) {
+        Found::Nothing => false,
+        Found::At(_, _) => true,
+    }
 }
 
 // "for matching 10, then 9": the number that is due, 0 where none is.
@@ -35,7 +50,7 @@ fn match_rule(t: &[u8], n: usize, s1: i32, s2: i32, s3: i32, s4: i32, s5: i32, s
     requires { ⌜ Verdict (rule-of (now t)) (Table n) ⌝ }
     ensures { λ r. ⌜ result-of r ≡ matching-of (now (t .entry)) (s1 ∷ s2 ∷ s3 ∷ s4 ∷ s5 ∷ s6 ∷ []) ⌝ }
 {
-    let quantified = quantifiers::quantified(t, n);
+    let quantified = quantified(t, n);
     let in_range = range::all_within(s1, s2, s3, s4, s5, s6);
     let number = due(quantified, in_range);
     if number != 0 {

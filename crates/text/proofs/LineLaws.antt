@@ -1,4 +1,4 @@
--- A line put number by number, and a table's nodes line by line.
+-- A line put number by number.
 -- Assumes nothing.
 use mathlib.Core.Path.{_≡_, refl, sym, _∙_, ap}
 use mathlib.Core.List.{List, [], _∷_, _++_, append-assoc, append-nil}
@@ -13,8 +13,6 @@ use Rattle.text.specs.Decimal.{decimal, number}
 use Rattle.text.specs.Lines.{spaced, line}
 use Rattle.text.specs.Placed.{Placed}
 use Rattle.text.proofs.PlacedLaws.{placed-none, placed-then, placed-as}
-
--- ---- a line
 
 pub spaced-one : (z : ℤ) → (32 ∷ []) ++ number z ≡ spaced (z ∷ [])
 unfolding spaced

@@ -1,13 +1,11 @@
 // Lines of numbers, put into lent bytes. Each function answers the place behind what it put.
-ghost use mathlib.Core.Path.{_≡_};
 ghost use mathlib.Core.List.{List, [], _∷_};
 ghost use Prim.Native.Nat.{_+_, _*_, _≤_};
 ghost use lib.IntN.{pos};
 ghost use lib.ListN.{length};
-ghost use Rattle.rules.specs.Table.{Node, bodies as bodies-of};
+ghost use Rattle.rules.specs.Table.{Node};
 ghost use Rattle.rules.specs.Calls.{signed, words as words-of};
-ghost use Rattle.rules.proofs.Encoding.{AllGood};
-ghost use Rattle.tables.specs.Checks.{Listed};
+ghost use Rattle.tables.specs.Checks.{ListedAs, Listed};
 ghost use Rattle.text.specs.Lines.{spaced as spaced-of, line as line-of, lines as lines-of};
 ghost use Rattle.text.specs.Placed.{Placed};
 use crate::decimal;
@@ -65,8 +63,8 @@ fn line(out: &mut [u8], at: usize, first: u32, words: &[u8]) -> usize
 pub fn lines(out: &mut [u8], at: usize, bodies: &[u8], left: usize) -> usize
     requires { ⌜ Listed (words-of (now bodies)) 0 left × (left + length (words-of (now bodies)) ≤ 16384)
         × (at + 12 * (left + length (words-of (now bodies))) ≤ length (now out)) ⌝ }
-    ensures { λ r. ⌜ ((ds : List Node) → words-of (now (bodies .entry)) ≡ bodies-of 0 ds → length ds ≡ left
-        → AllGood ds → Placed (now (out .entry)) at (lines-of 0 ds) (now (out .exit)) r)
+    ensures { λ r. ⌜ ((ds : List Node) → ListedAs (words-of (now (bodies .entry))) 0 left ds
+        → Placed (now (out .entry)) at (lines-of 0 ds) (now (out .exit)) r)
         × (r ≤ at + 12 * (left + length (words-of (now (bodies .entry))))) ⌝ }
 {
     let mut next = at;

@@ -21,7 +21,7 @@ use Rattle.matcher.proofs.outcome.match_rule.Tie as tie
 use Rattle.matcher.proofs.outcome.match_rule.Reads as reads
 use Rattle.matcher.proofs.outcome.match_rule.Lts as lts
 use Rattle.matcher.proofs.outcome.due.Reads as due-reads
-use Rattle.matcher.proofs.quantifiers.quantified.Reads as quantified-reads
+use Rattle.matcher.proofs.outcome.quantified.Reads as quantified-reads
 use Rattle.matcher.proofs.range.all_within.Reads as all-within-reads
 use Rattle.matcher.proofs.walk.verdict.Reads as verdict-reads
 

@@ -7,7 +7,8 @@ use Rattle.rules.specs.Calls.{words}
 use Rattle.tables.proofs.WordLaws.{words-length}
 use Rattle.matcher.specs.Matching.{SomeMatchable}
 use Rattle.matcher.proofs.WalkLaws.{Kinded, JoinKind, RightNode, RightSide, CameTo}
-use Rattle.matcher.proofs.WalkLaws.{some-inside, constant-says, body-there, some-literal, literal-says}
+use Rattle.matcher.proofs.Shapes.{some-inside}
+use Rattle.matcher.proofs.WalkLaws.{constant-says, body-there, some-literal, literal-says}
 use Rattle.matcher.proofs.WalkLaws.{some-left, left-says, child-behind, child-inside}
 use Rattle.matcher.proofs.WalkLaws.{walk-begins, come-to, walk-ends, under-not, to-right}
 use borrow.Author.Needs.{needs}

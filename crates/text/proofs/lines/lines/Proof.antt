@@ -8,10 +8,10 @@ use borrow.Author.Needs.{needs}
 use lib.IntN.{ℤ, pos}
 use lib.ListN.{length, take, drop, length-take, length-drop}
 use Rattle.rules.specs.Calls.{words as words-of}
-use Rattle.tables.proofs.WordLaws.{words-length}
+use Rattle.tables.proofs.WordLaws.{words-length, words-between}
 use Rattle.text.specs.Lines.{line}
 use Rattle.text.proofs.PlacedLaws.{placed-as}
-use Rattle.text.proofs.NodeLaws.{Going, part-words, none-yet, all-nodes, node-there, body-there, one-node}
+use Rattle.text.proofs.NodeLaws.{Going, none-yet, all-nodes, node-there, body-there, one-node}
 use Rattle.text.proofs.lines.lines.Statement.{statement}
 use Rattle.text.proofs.lines.lines.Tie as tie
 
@@ -54,7 +54,7 @@ node-words : (c : tie.After-width Inv-loop μ-loop)
 node-words c =
     let p : ℕ = turn c .loop .place in
     let w : ℕ = c .width .result in
-    let same = part-words (start (turn c) .args .bodies .now) p w in
+    let same = words-between (start (turn c) .args .bodies .now) p w in
     (same, omega (arith, ap length same, length-take w (drop p (all (turn c))), length-drop p (all (turn c)), there c))
 
 loop-holds : tie.Need-loop-holds Inv-loop μ-loop
