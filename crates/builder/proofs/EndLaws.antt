@@ -5,9 +5,8 @@ use mathlib.Core.List.{List, [], _∷_, _++_}
 use Prim.Native.Nat.{ℕ, suc, _+_, _-_, _<_, _≤_}
 use native.Mathlib.Omega.{arith}
 use lib.IntN.{ℤ, pos}
-use lib.ListN.{length, getD, set, take, drop, length-set, length-append, length-drop}
+use lib.ListN.{length, getD, set, drop, length-set, length-append}
 use lib.Seq.{drop-length, drop-cons, getD-set-same, drop-set-lt, lt-length-set, drop-drop, drop-append-add}
-use lib.Seq.{length-take-le, getD-take, getD-drop}
 use mir.Syntax.{w32}
 use mir.Val.{SFits}
 use Rattle.rules.specs.Sum.{limit}
@@ -87,31 +86,22 @@ ends-back ws u w x l e b =
           ∙ drop-drop k (w - n) (x ++ l) ∙ ap (λ (m : ℕ). drop m (x ++ l)) there ∙ drop-append-add x l (u - n);
     }
 
--- ---- a run of words s, from its last to its first
+-- ---- the words of a sum s, from the last to the first
 
 module _ (s ws : List ℤ) (u : ℕ) (l : List ℤ) where
-  pub run-none : (n : ℕ) → n ≡ length s → Ends ws u l → Ends ws u (drop n s ++ l)
-  run-none n e b =
-      subst (λ (m : List ℤ). Ends ws u (m ++ l)) (sym (ap (λ (k : ℕ). drop k s) e ∙ drop-length s)) b
+  pub sum-none : Ends ws u l → Ends ws u (drop (length s) s ++ l)
+  sum-none b = subst (λ (m : List ℤ). Ends ws u (m ++ l)) (sym (drop-length s)) b
 
-  pub run-more : (i : ℕ) (v : ℤ) → 0 < i → i ≤ length s → v ≡ getD s (i - 1) (pos 0)
+  pub sum-more : (i : ℕ) (v : ℤ) → 0 < i → i ≤ length s → v ≡ getD s (i - 1) (pos 0)
       → Ends ws u (v ∷ drop i s ++ l) → Ends ws u (drop (i - 1) s ++ l)
-  run-more i v z g e b =
+  sum-more i v z g e b =
       let up : suc (i - 1) ≡ i = omega arith in
       let split = drop-cons s (i - 1) (pos 0) (omega arith) in
       let rest = ap (λ (m : ℕ). getD s (i - 1) (pos 0) ∷ drop m s) up in
       let first = ap (λ (x : ℤ). x ∷ drop i s) (sym e) in
       subst (λ (m : List ℤ). Ends ws u (m ++ l)) (sym (split ∙ rest ∙ first)) b
 
-  pub run-all : (i : ℕ) → i ≤ 0 → Ends ws u (drop i s ++ l) → Ends ws u (s ++ l)
-  run-all i z b =
+  pub sum-all : (i : ℕ) → i ≤ 0 → Ends ws u (drop i s ++ l) → Ends ws u (s ++ l)
+  sum-all i z b =
       let none : i ≡ 0 = omega arith in
       subst (λ (k : ℕ). Ends ws u (drop k s ++ l)) none b
-
--- the run of n words of t from p on
-module _ (t : List ℤ) (p n : ℕ) (h : p + n ≤ length t) where
-  pub part-long : length (take n (drop p t)) ≡ n
-  part-long = length-take-le n (drop p t) (omega (arith, length-drop p t))
-
-  pub part-get : (i : ℕ) → i < n → getD t (p + i) (pos 0) ≡ getD (take n (drop p t)) i (pos 0)
-  part-get i k = sym (getD-take n (drop p t) i (pos 0) k ∙ getD-drop p t i (pos 0))

@@ -3,11 +3,12 @@
 use mathlib.Core.Path.{_≡_}
 use mathlib.Core.Bool.{Bool, true, false}
 use mathlib.Core.List.{List, [], _∷_, _++_}
-use Prim.Native.Nat.{ℕ, _+_, _-_, _<_}
+use Prim.Native.Nat.{ℕ, _+_, _-_, _<_, _≤_}
 use lib.IntN.{ℤ}
 use lib.ListN.{length, drop}
 use Rattle.rules.specs.Rule.{Junction, and, or, Quantifier, for-some, for-all, Test, positive, is-zero}
-use Rattle.rules.specs.Table.{Node, body}
+use Rattle.rules.specs.Table.{Node, most-words, body}
+use Rattle.rules.proofs.Sizes.{total}
 use Rattle.builder.specs.declared.push.State.{State}
 
 -- the words l, u of them: the last ones, as many as there is room for, are the last words of the buffer ws
@@ -36,6 +37,12 @@ most-counted = 1152921504606846976
 pub record Countable (b : State) (n : ℕ) : Type 0 where
   pub words : b .used + n < most-counted
   pub nodes : b .nodes < most-counted
+
+-- the nodes ds are built, and so many words more can be counted
+pub record Building (ws : List ℤ) (b : State) (ds : List Node) (more : ℕ) : Type 0 where
+  pub built : Built ws b ds
+  pub small : total ds + more < most-counted
+  pub room : length ws ≤ most-words
 
 -- ---- which node a truth value stands for
 

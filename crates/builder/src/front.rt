@@ -4,7 +4,7 @@ ghost use mathlib.Core.Path.{_≡_};
 ghost use mathlib.Core.List.{List, _∷_, _++_};
 ghost use Prim.Native.Nat.{_+_, _<_, _≤_};
 ghost use lib.IntN.{ℤ, pos};
-ghost use lib.ListN.{length, getD, take, drop};
+ghost use lib.ListN.{length, getD};
 ghost use Rattle.rules.specs.Sum.{limit};
 ghost use Rattle.rules.specs.Calls.{words as words-of};
 ghost use Rattle.builder.specs.Built.{Ends, most-counted};
@@ -33,22 +33,6 @@ pub fn number(out: &mut [u8], used: usize, n: usize) -> usize
         return word(out, used, n as i32);
     }
     used + 1
-}
-
-// The `size` words of the table t from place p on.
-pub fn part(t: &[u8], p: usize, size: usize, out: &mut [u8], used: usize) -> usize
-    requires { ⌜ (p + size ≤ length (words-of (now t))) × (used + size < most-counted) ⌝ }
-    ensures { λ r. ⌜ ((l : List ℤ) → Ends (words-of (now (out .entry))) used l
-        → Ends (words-of (now (out .exit))) r (take size (drop p (words-of (now (t .entry)))) ++ l))
-        × (r ≡ used + size) ⌝ }
-{
-    let mut u = used;
-    let mut i = size;
-    while 0 < i {
-        i -= 1;
-        u = word(out, u, words::get(t, p + i));
-    }
-    u
 }
 
 // Word i of a sum.

@@ -1,18 +1,19 @@
 // Nodes put in front of those that are built: of each the last word first, its kind last.
 use crate::front;
 ghost use mathlib.Core.Path.{_≡_};
-ghost use mathlib.Core.Bool.{cond};
-ghost use mathlib.Core.List.{List, [], _∷_};
-ghost use Prim.Native.Nat.{_+_, _≤_};
+ghost use mathlib.Core.Bool.{Bool, true, false, cond};
+ghost use mathlib.Core.List.{List, [], _∷_, _++_};
+ghost use Prim.Native.Nat.{_+_, _<_, _≤_};
 ghost use lib.Dec.{leb};
-ghost use lib.ListN.{length, take, drop};
+ghost use lib.ListN.{length};
 ghost use lib.IntN.{ℤ, pos};
 ghost use Rattle.rules.specs.Sum.{limit};
 ghost use Rattle.rules.specs.Rule.{Rule, divisible};
 ghost use Rattle.rules.specs.Table.{Node, constant-node, join-node, not-node, literal-node, bind-node};
 ghost use Rattle.rules.specs.Table.{most-words, body as body-of, nodes, size};
 ghost use Rattle.rules.specs.Calls.{words};
-ghost use Rattle.builder.specs.Built.{Built, Countable, junction, quantifier, compared};
+ghost use Rattle.builder.specs.Built.{Ends, Built, Countable, most-counted, unplaced};
+ghost use Rattle.builder.specs.Built.{junction, quantifier, compared};
 
 // How many words the nodes that are built have, and how many nodes. By value: an earlier state, taken up again, is what
 // was built then.
@@ -46,17 +47,28 @@ fn kind(c: bool, yes: i32, no: i32) -> i32
     no
 }
 
+// A node of one of two kinds, which a truth value chooses: its kind in front of its fields, which are put. With them u
+// words are used.
+fn either(out: &mut [u8], b: State, u: usize, c: bool, yes: i32, no: i32) -> State
+    requires { ⌜ (u < most-counted) × (b .nodes < most-counted) ⌝ }
+    ensures { λ r. ⌜ ((d : Bool → Node) (fields : List ℤ) (ds : List Node) → body-of 0 (d true) ≡ yes ∷ fields
+        → body-of 0 (d false) ≡ no ∷ fields → b .nodes ≡ length ds
+        → Ends (words (now (out .entry))) u (fields ++ unplaced ds) → Built (words (now (out .exit))) r (d c ∷ ds)) ⌝ }
+{
+    let u = front::word(out, u, kind(c, yes, no));
+    State {
+        used: u,
+        nodes: b.nodes + 1,
+    }
+}
+
 // True or false.
 pub fn constant(out: &mut [u8], b: State, v: bool) -> State
     requires { ⌜ Countable b 1 ⌝ }
     ensures { λ r. ⌜ ((ds : List Node) → Built (words (now (out .entry))) b ds
         → Built (words (now (out .exit))) r (constant-node v ∷ ds)) ⌝ }
 {
-    let u = front::word(out, b.used, kind(v, 1, 0));
-    State {
-        used: u,
-        nodes: b.nodes + 1,
-    }
+    either(out, b, b.used, v, 1, 0)
 }
 
 // An and or an or, whose right child stands so far behind it.
@@ -66,11 +78,7 @@ pub fn join(out: &mut [u8], b: State, both: bool, right: usize) -> State
         → Built (words (now (out .exit))) r (join-node (junction both) (pos right) ∷ ds)) ⌝ }
 {
     let u = front::number(out, b.used, right);
-    let u = front::word(out, u, kind(both, 2, 3));
-    State {
-        used: u,
-        nodes: b.nodes + 1,
-    }
+    either(out, b, u, both, 2, 3)
 }
 
 // A not.
@@ -93,24 +101,7 @@ pub fn bind(out: &mut [u8], b: State, some: bool, v: usize) -> State
         → Built (words (now (out .exit))) r (bind-node (quantifier some) v ∷ ds)) ⌝ }
 {
     let u = front::number(out, b.used, v);
-    let u = front::word(out, u, kind(some, 8, 9));
-    State {
-        used: u,
-        nodes: b.nodes + 1,
-    }
-}
-
-// A node with no right child, a literal or a quantifier, whose words stand in the table t from place p on.
-pub fn copy(t: &[u8], p: usize, width: usize, out: &mut [u8], b: State) -> State
-    requires { ⌜ Countable b width × (p + width ≤ length (words (now t))) ⌝ }
-    ensures { λ r. ⌜ ((d : Node) (ds : List Node) → body-of 0 d ≡ take width (drop p (words (now (t .entry))))
-        → Built (words (now (out .entry))) b ds → Built (words (now (out .exit))) r (d ∷ ds)) ⌝ }
-{
-    let u = front::part(t, p, width, out, b.used);
-    State {
-        used: u,
-        nodes: b.nodes + 1,
-    }
+    either(out, b, u, some, 8, 9)
 }
 
 // A sum T compared with 0: T = 0, or 0 < T.
@@ -120,11 +111,7 @@ pub fn compared(out: &mut [u8], b: State, zero: bool, sum: &[i32]) -> State
         → Built (words (now (out .exit))) r (literal-node (compared zero) (now (sum .entry)) ∷ ds)) ⌝ }
 {
     let u = front::given(out, b.used, sum);
-    let u = front::word(out, u, kind(zero, 10, 5));
-    State {
-        used: u,
-        nodes: b.nodes + 1,
-    }
+    either(out, b, u, zero, 10, 5)
 }
 
 // k divides a sum T, or does not.
@@ -135,9 +122,5 @@ pub fn divided(out: &mut [u8], b: State, yes: bool, k: usize, sum: &[i32]) -> St
 {
     let u = front::given(out, b.used, sum);
     let u = front::number(out, u, k);
-    let u = front::word(out, u, kind(yes, 6, 7));
-    State {
-        used: u,
-        nodes: b.nodes + 1,
-    }
+    either(out, b, u, yes, 6, 7)
 }

@@ -2,19 +2,14 @@
 -- Assumes nothing.
 use mathlib.Core.Path.{_≡_, sym, ap, _∙_, subst}
 use mathlib.Core.List.{List, [], _∷_, _++_, append-assoc, append-nil}
-use Prim.Native.Nat.{ℕ, suc, _+_, _/_, _<_, _≤_}
+use Prim.Native.Nat.{ℕ, suc, _+_, _<_, _≤_}
 use native.Mathlib.Nat.{add-zero}
 use native.Mathlib.Omega.{arith}
 use lib.IntN.{ℤ, pos}
 use lib.ListN.{length, getD, set, take, drop, length-drop}
 use lib.Seq.{take-suc, take-suc-set, getD-drop}
-use Rattle.rules.specs.Calls.{words}
-use Rattle.tables.proofs.WordLaws.{words-length}
 
 -- as many bytes, as many words
-pub same-words : (l m : List ℕ) → length l ≡ length m → length (words l) ≡ length (words m)
-same-words l m e = words-length l ∙ ap (λ (n : ℕ). n / 4) e ∙ sym (words-length m)
-
 -- of the words of ws from place `from` on, j stand at place `to` of vs; what stood before it in ts still does
 pub record Copied (ws : List ℤ) (from : ℕ) (ts : List ℤ) (to : ℕ) (vs : List ℤ) (j : ℕ) : Type 0 where
   pub begins : take (to + j) vs ≡ take to ts ++ take j (drop from ws)

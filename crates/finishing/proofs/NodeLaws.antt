@@ -13,7 +13,7 @@ use mir.Syntax.{w32}
 use mir.Val.{toZ, ofZ}
 use mir.Facts.{toZ-ofZ}
 use Rattle.rules.specs.Sum.{limit}
-use Rattle.rules.specs.Rule.{and, or, positive, divisible, is-zero, for-some, for-all}
+use Rattle.rules.specs.Rule.{Junction, and, or, positive, divisible, is-zero, for-some, for-all}
 use Rattle.rules.specs.Table.{Node, constant-node, join-node, not-node, literal-node, bind-node}
 use Rattle.rules.specs.Table.{most-words, body, width}
 use Rattle.rules.specs.Calls.{signed}
@@ -21,10 +21,11 @@ use Rattle.rules.proofs.Sizes.{length-body, words-pos}
 use Rattle.tables.specs.Reads.{widths, kind-of}
 use Rattle.tables.proofs.WordLaws.{number-of}
 use Rattle.tables.proofs.Standings.{width-is}
-use Rattle.tables.proofs.KindLaws.{first-word, kind-width}
+use Rattle.tables.proofs.KindLaws.{kind-read, kind-width}
 use Rattle.builder.proofs.EndLaws.{number-fits}
-use Rattle.builder.proofs.BuiltLaws.{literal-anywhere, bind-anywhere}
-use Rattle.finishing.specs.Finishing.{Near, Placeable, Placed}
+use Rattle.finishing.specs.Placing.{Run}
+use Rattle.finishing.specs.Finishing.{Near, Placeable}
+use Rattle.finishing.proofs.RunLaws.{run-one}
 
 -- a number that is stored is that number
 pub put-is : (ts vs : List ℤ) (p n : ℕ) → n ≤ limit → vs ≡ set ts p (toZ w32 (ofZ w32 (pos n))) → vs ≡ set ts p (pos n)
@@ -40,8 +41,12 @@ same-anywhere m i (constant-node true) f = refl
 same-anywhere m i (join-node and right) f = absurd (f refl)
 same-anywhere m i (join-node or right) f = absurd (f refl)
 same-anywhere m i not-node f = refl
-same-anywhere m i (literal-node t s) f = sym (literal-anywhere m t s) ∙ literal-anywhere i t s
-same-anywhere m i (bind-node q v) f = sym (bind-anywhere m q v) ∙ bind-anywhere i q v
+same-anywhere m i (literal-node positive s) f = refl
+same-anywhere m i (literal-node (divisible true k) s) f = refl
+same-anywhere m i (literal-node (divisible false k) s) f = refl
+same-anywhere m i (literal-node is-zero s) f = refl
+same-anywhere m i (bind-node for-some v) f = refl
+same-anywhere m i (bind-node for-all v) f = refl
 
 record Joins (d : Node) : Type 0 where
   kind : ℤ
@@ -49,28 +54,23 @@ record Joins (d : Node) : Type 0 where
   placed : (i : ℕ) → body i d ≡ kind ∷ pos (distance + i) ∷ []
   near : distance ≤ most-words
 
--- a right child m nodes behind node i
-child : (kind : ℤ) (i m : ℕ) (right : ℤ) → right ≡ pos m → kind ∷ (pos i +ℤ right) ∷ [] ≡ kind ∷ pos (m + i) ∷ []
-child kind i m right e =
-    ap (λ (z : ℤ). kind ∷ (pos i +ℤ z) ∷ []) e
-    ∙ ap (λ (x : ℕ). kind ∷ pos x ∷ []) (let turned : i + m ≡ m + i = omega arith in turned)
+a-join : (kind : ℤ) (j : Junction) (right : ℤ) → ((i : ℕ) → body i (join-node j right) ≡ kind ∷ (pos i +ℤ right) ∷ [])
+    → Near (join-node j right) → Joins (join-node j right)
+unfolding Near
+a-join kind j right is (m, e, low) = record {
+  kind = kind;
+  distance = m;
+  placed = λ i. let turned : i + m ≡ m + i = omega arith in
+      is i ∙ ap (λ (z : ℤ). kind ∷ (pos i +ℤ z) ∷ []) e ∙ ap (λ (x : ℕ). kind ∷ pos x ∷ []) turned;
+  near = low;
+}
 
 joins : (d : Node) → kind-of d / 2 ≡ 1 → Near d → Joins d
-unfolding kind-of body Near
+unfolding kind-of body
 joins (constant-node false) e n = absurd (omega arith)
 joins (constant-node true) e n = absurd (omega arith)
-joins (join-node and right) e n = record {
-  kind = pos 2;
-  distance = n .0;
-  placed = λ i. child (pos 2) i (n .0) right (n .1);
-  near = n .2;
-}
-joins (join-node or right) e n = record {
-  kind = pos 3;
-  distance = n .0;
-  placed = λ i. child (pos 3) i (n .0) right (n .1);
-  near = n .2;
-}
+joins (join-node and right) e n = a-join (pos 2) and right (λ i. refl) n
+joins (join-node or right) e n = a-join (pos 3) or right (λ i. refl) n
 joins not-node e n = absurd (omega arith)
 joins (literal-node positive s) e n = absurd (omega arith)
 joins (literal-node (divisible true k) s) e n = absurd (omega arith)
@@ -116,14 +116,13 @@ module _ {ws : List ℤ} {from shift : ℕ} {ts : List ℤ} {i to : ℕ} {d : No
     kind-is : k ≡ kind-of d
     kind-is =
         let start = getD-drop from ws 0 (pos 0) ∙ ap (λ (p : ℕ). getD ws p (pos 0)) (add-zero from) ∙ read .first in
-        let due = ap (λ (vs : List ℤ). getD vs 0 (pos 0)) (h .begins) ∙ first-word (h .number) d (h .after) in
-        number-of k (kind-of d) (sym start ∙ due)
+        kind-read (h .number) d (h .after) k (h .begins) start
 
     is-wide : w ≡ width d
     is-wide = read .wide ∙ ap (λ (m : ℕ). getD widths m 0) kind-is ∙ sym (kind-width d (h .good))
 
     pub copy-inside : (from + w ≤ length ws) × (to + w ≤ length ts)
-    copy-inside = (omega (arith, is-wide, body-inside), omega (arith, is-wide, h .room))
+    copy-inside = (omega (arith, is-wide, body-inside), omega (arith, is-wide, h .free .bodies))
 
     -- the second word of a join is its right child's distance u
     module _ (two : k / 2 ≡ 1) where
@@ -146,7 +145,7 @@ module _ {ws : List ℤ} {from shift : ℕ} {ts : List ℤ} {i to : ℕ} {d : No
 
         -- its number is one that a word can hold
         pub child-low : u + shift ≤ limit
-        child-low = omega (arith, distance-is, h .shifted, join .near, h .behind-entry, h .most)
+        child-low = omega (arith, distance-is, h .shifted, join .near, h .free .entries, h .free .most)
 
   -- ---- what stands in the table then
 
@@ -154,7 +153,7 @@ module _ {ws : List ℤ} {from shift : ℕ} {ts : List ℤ} {i to : ℕ} {d : No
   front = set (take to ts) (i + 1) (pos to)
 
   front-long : length front ≡ to
-  front-long = length-set (take to ts) (i + 1) (pos to) ∙ length-take-le to ts (omega (arith, h .room))
+  front-long = length-set (take to ts) (i + 1) (pos to) ∙ length-take-le to ts (omega (arith, h .free .bodies))
 
   module _ {k w : ℕ} {us : List ℤ} (c : CopiedNode ws from ts i to k w us) where
     copied-body : take (to + w) us ≡ front ++ body (h .number) d
@@ -162,20 +161,27 @@ module _ {ws : List ℤ} {from shift : ℕ} {ts : List ℤ} {i to : ℕ} {d : No
     copied-body =
         c .copied
         ∙ ap (λ (l : List ℤ). take to l ++ take w (drop from ws)) (c .entry)
-        ∙ ap (λ (l : List ℤ). l ++ take w (drop from ws)) (take-set-lt to ts (i + 1) (pos to) (h .behind-entry))
+        ∙ ap (λ (l : List ℤ). l ++ take w (drop from ws)) (take-set-lt to ts (i + 1) (pos to) (h .free .entries))
         ∙ ap (λ (l : List ℤ). front ++ take w l) (h .begins)
         ∙ ap (λ (l : List ℤ). front ++ l)
         (take-at (body (h .number) d) (h .after) w
         (length-body (h .number) d ∙ sym (is-wide (c .read) ∙ width-is d)))
 
-    pub other-placed : ¬ (k / 2 ≡ 1) → Placed ts us i to w d
+    -- with its body behind it, which made vs, it is placed
+    placed : (vs : List ℤ) → take (to + w) vs ≡ front ++ body i d → Run ts vs i to (d ∷ []) × (w ≡ width d)
+    placed vs begins =
+        let wide = is-wide (c .read) in
+        let long : length (body i d) ≡ w = omega (arith, length-body i d, width-is d, wide) in
+        (run-one d refl (record { begins = ap (λ (n : ℕ). take (to + n) vs) long ∙ begins }), wide)
+
+    pub other-placed : ¬ (k / 2 ≡ 1) → Run ts us i to (d ∷ []) × (w ≡ width d)
     other-placed f =
         let same = same-anywhere (h .number) i d (λ e. f (ap (λ (m : ℕ). m / 2) (kind-is (c .read)) ∙ e)) in
-        record { wide = is-wide (c .read); begins = copied-body ∙ ap (λ (l : List ℤ). front ++ l) same }
+        placed us (copied-body ∙ ap (λ (l : List ℤ). front ++ l) same)
 
     -- the right child's number is put, which makes xs of us
     pub join-placed : (two : k / 2 ≡ 1) (u : ℕ) → getD ws (from + 1) (pos 0) ≡ signed u
-        → (xs : List ℤ) → xs ≡ set us (to + 1) (pos (u + shift)) → Placed ts xs i to w d
+        → (xs : List ℤ) → xs ≡ set us (to + 1) (pos (u + shift)) → Run ts xs i to (d ∷ []) × (w ≡ width d)
     join-placed two u second xs e =
         let here = join (c .read) two in
         let kind = here .kind in
@@ -187,13 +193,11 @@ module _ {ws : List ℤ} {from shift : ℕ} {ts : List ℤ} {i to : ℕ} {d : No
         let inside : to + 1 < to + w = omega (arith, two-words (c .read) two) in
         let two-there = copied-body ∙ ap (λ (l : List ℤ). front ++ l) (here .placed (h .number))
         ∙ sym (append-assoc front (kind ∷ []) (pos (here .distance + h .number) ∷ [])) in
-        record {
-          wide = is-wide (c .read);
-          begins = ap (take (to + w)) e
-              ∙ take-set-lt (to + w) us (to + 1) child inside
-              ∙ ap (λ (l : List ℤ). set l (to + 1) child) two-there
-              ∙ set-at before-child (pos (here .distance + h .number)) [] child (to + 1) long
-              ∙ append-assoc front (kind ∷ []) (child ∷ [])
-              ∙ ap (λ (m : ℕ). front ++ kind ∷ pos m ∷ []) moved
-              ∙ ap (λ (l : List ℤ). front ++ l) (sym (here .placed i));
-        }
+        placed xs
+        (ap (take (to + w)) e
+        ∙ take-set-lt (to + w) us (to + 1) child inside
+        ∙ ap (λ (l : List ℤ). set l (to + 1) child) two-there
+        ∙ set-at before-child (pos (here .distance + h .number)) [] child (to + 1) long
+        ∙ append-assoc front (kind ∷ []) (child ∷ [])
+        ∙ ap (λ (m : ℕ). front ++ kind ∷ pos m ∷ []) moved
+        ∙ ap (λ (l : List ℤ). front ++ l) (sym (here .placed i)))

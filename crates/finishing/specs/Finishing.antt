@@ -2,9 +2,9 @@
 -- Assumes nothing.
 use mathlib.Core.Path.{_≡_}
 use mathlib.Core.List.{List, _++_}
-use Prim.Native.Nat.{ℕ, _+_, _<_, _≤_}
+use Prim.Native.Nat.{ℕ, _+_, _≤_}
 use lib.IntN.{ℤ, pos}
-use lib.ListN.{length, take, drop, set}
+use lib.ListN.{length, drop}
 use Rattle.rules.specs.Rule.{Rule}
 use Rattle.rules.specs.Table.{Node, constant-node, join-node, not-node, literal-node, bind-node}
 use Rattle.rules.specs.Table.{most-words, body, width, nodes, size}
@@ -12,6 +12,7 @@ use Rattle.rules.specs.Laws.{WellFormed}
 use Rattle.rules.proofs.Encoding.{Good}
 use Rattle.builder.specs.Built.{Built}
 use Rattle.builder.specs.declared.push.State.{State}
+use Rattle.finishing.specs.Placing.{Free}
 
 -- the rule r is all that is built at the end of ws, and its table has room there and in ts
 pub record Finishable (ws : List ℤ) (b : State) (ts : List ℤ) (r : Rule) : Type 0 where
@@ -36,7 +37,7 @@ Near (literal-node t s) = Unit {0}
 Near (bind-node q v) = Unit {0}
 
 -- the words of d stand from place `from` of ws on, with a number that is `shift` less than i, and as node i it has room
--- at place `to` of ts, behind its entry
+-- at place `to` of ts
 pub record Placeable (ws : List ℤ) (from shift : ℕ) (ts : List ℤ) (i to : ℕ) (d : Node) : Type 0 where
   pub number : ℕ
   pub shifted : number + shift ≡ i
@@ -44,15 +45,8 @@ pub record Placeable (ws : List ℤ) (from shift : ℕ) (ts : List ℤ) (i to : 
   pub begins : drop from ws ≡ body number d ++ after
   pub good : Good d
   pub near : Near d
-  pub behind-entry : i + 1 < to
-  pub room : to + width d ≤ length ts
-  pub most : to + width d ≤ most-words
+  pub free : Free ts i to 1 (width d)
 
 pub record SomePlaceable (ws : List ℤ) (from shift : ℕ) (ts : List ℤ) (i to : ℕ) : Type 0 where
   pub node : Node
   pub placeable : Placeable ws from shift ts i to node
-
--- in vs, which was ts, node i is d: its entry says that its body, w words, stands at place `to`
-pub record Placed (ts vs : List ℤ) (i to w : ℕ) (d : Node) : Type 0 where
-  pub wide : w ≡ width d
-  pub begins : take (to + w) vs ≡ set (take to ts) (i + 1) (pos to) ++ body i d

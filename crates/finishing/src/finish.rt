@@ -3,14 +3,15 @@ use builder::push::State;
 use tables::reading;
 use tables::words;
 ghost use mathlib.Core.Path.{_≡_};
-ghost use mathlib.Core.List.{_++_};
+ghost use mathlib.Core.List.{[], _∷_, _++_};
 ghost use Prim.Native.Nat.{_+_, _≤_};
 ghost use lib.ListN.{length, take, drop};
 ghost use Rattle.rules.specs.Rule.{Rule};
-ghost use Rattle.rules.specs.Table.{Node};
+ghost use Rattle.rules.specs.Table.{Node, width as width-of};
 ghost use Rattle.rules.specs.Calls.{words as words-of};
 ghost use Rattle.tables.specs.Standing.{TableAt};
-ghost use Rattle.finishing.specs.Finishing.{Finishable, SomeFinishable, SomePlaceable, Placeable, Placed};
+ghost use Rattle.finishing.specs.Placing.{Run};
+ghost use Rattle.finishing.specs.Finishing.{Finishable, SomeFinishable, SomePlaceable, Placeable};
 
 // The `width` words of `work` from place `from` on, at place `to` of `table`.
 fn copy(work: &[u8], from: usize, width: usize, table: &mut [u8], to: usize)
@@ -31,7 +32,7 @@ pub fn node(work: &[u8], from: usize, shift: usize, table: &mut [u8], i: usize, 
     requires { ⌜ SomePlaceable (words-of (now work)) from shift (words-of (now table)) i to ⌝ }
     ensures { λ r. ⌜ ((d : Node)
         → Placeable (words-of (now (work .entry))) from shift (words-of (now (table .entry))) i to d
-        → Placed (words-of (now (table .entry))) (words-of (now (table .exit))) i to r d) ⌝ }
+        → Run (words-of (now (table .entry))) (words-of (now (table .exit))) i to (d ∷ []) × (r ≡ width-of d)) ⌝ }
 {
     let kind = words::natural(work, from);
     let width = reading::width(kind);

@@ -1,1 +1,4 @@
+pub mod SettledLaws
 pub mod AnswerLaws
+pub mod JoinLaws
+pub mod UnderLaws

@@ -2,7 +2,7 @@
 -- is put in front of what was built.
 -- Assumes nothing.
 use mathlib.Core.Path.{_≡_}
-use mathlib.Core.Bool.{Bool, true, false, not}
+use mathlib.Core.Bool.{Bool, false, not, cond}
 use mathlib.Core.List.{List, _++_}
 use Prim.Native.Nat.{ℕ, _+_, _<_, _≤_}
 use lib.IntN.{ℤ}
@@ -32,8 +32,7 @@ built-then ds r (Pushed c) = nodes r ++ ds
 
 -- an and (true) or an or is settled by this answer of one side: false, or true
 unfoldable pub settled : Bool → Folded → Bool
-settled true (Known v) = not v
-settled false (Known v) = v
+settled both (Known v) = cond both (not v) v
 settled both (Pushed c) = false
 
 -- some rule was answered, and so many words more can be counted
@@ -45,18 +44,14 @@ pub record Answered (ws : List ℤ) (b : State) (f : Folded) (more : ℕ) : Type
 
 -- ---- the sides of an and or an or, the right one answered first
 
--- an answer apart from what the buffer holds
-unfoldable pub Says : State → Rule → Folded → Type 0
-Says b r (Known v) = r ≡ Constant v
-Says b r (Pushed c) = Open r
-
--- the right side x does not settle the join, and then the left side y was answered
+-- the state b counts the nodes ds; then the right side x was answered, in a buffer that held `between`, and does not
+-- settle the join; then the left side y was answered
 pub record Sides (ws : List ℤ) (both : Bool) (b : State) (ds : List Node) (x y : Rule) (right left : Folded)
     : Type 0 where
-  pub unsettled : settled both right ≡ false
   pub counted : (b .used ≡ total ds) × (b .nodes ≡ length ds)
-  pub counted-then : after b right .nodes ≡ length (built-then ds x right)
-  pub first : Says b x right
+  pub between : List ℤ
+  pub first : Gives between b ds x right
+  pub unsettled : settled both right ≡ false
   pub second : Gives ws (after b right) (built-then ds x right) y left
 
 pub record SomeSides (ws : List ℤ) (both : Bool) (b : State) (right left : Folded) : Type 0 where

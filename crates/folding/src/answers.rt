@@ -41,8 +41,8 @@ pub fn settles(both: bool, f: Folded) -> bool
     v
 }
 
-// "An and with a false side is false, one with a true side is its other side; or is the dual." The right side, which was
-// answered first, does not settle it.
+// "An and with a false side is false, one with a true side is its other side; or is the dual." The right side, which
+// was answered first, does not settle it.
 pub fn joined(out: &mut [u8], both: bool, b: State, right: Folded, left: Folded) -> Folded
     requires { ⌜ SomeSides (words (now out)) both b right left ⌝ }
     ensures { λ r. ⌜ ((x y : Rule) (ds : List Node) → Sides (words (now (out .entry))) both b ds x y right left

@@ -1,3 +1,3 @@
-pub mod RunLaws
-pub mod RuleLaws
+pub mod PlaceLaws
+pub mod OtherLaws
 pub mod QuestionLaws

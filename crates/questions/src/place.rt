@@ -3,18 +3,17 @@ use finishing::finish;
 use tables::words;
 ghost use mathlib.Core.Path.{_≡_};
 ghost use mathlib.Core.List.{[], _∷_};
-ghost use Prim.Native.Nat.{_+_, _-_, _≤_};
+ghost use Prim.Native.Nat.{_+_, _≤_};
 ghost use lib.IntN.{pos};
-ghost use lib.ListN.{length};
 ghost use Rattle.rules.specs.Sum.{limit};
 ghost use Rattle.rules.specs.Rule.{Rule};
 ghost use Rattle.rules.specs.Result.{given};
-ghost use Rattle.rules.specs.Table.{Node, body, nodes};
+ghost use Rattle.rules.specs.Table.{Node, body, count, nodes};
 ghost use Rattle.rules.specs.Calls.{words as words-of, rule-of};
 ghost use Rattle.rules.proofs.Sizes.{weight};
 ghost use Rattle.tables.specs.Checks.{Verdict};
 ghost use Rattle.tables.specs.declared.check.Checked.the-variants.{Table};
-ghost use Rattle.questions.specs.Placing.{Free, Run};
+ghost use Rattle.finishing.specs.Placing.{Free, Run};
 
 // Node i, whose body is a kind alone, at place `to`.
 pub fn one(table: &mut [u8], i: usize, to: usize, kind: usize)
@@ -40,7 +39,7 @@ pub fn two(table: &mut [u8], i: usize, to: usize, kind: usize, field: usize)
 // The n nodes of the table t, as nodes from i on, the first of them at place `to`. The place behind the last.
 pub fn rule(t: &[u8], n: usize, table: &mut [u8], i: usize, to: usize) -> usize
     requires { ⌜ Verdict (rule-of (now t)) (Table n)
-        × Free (words-of (now table)) i to n (length (words-of (now t)) - (n + 1)) ⌝ }
+        × ((a : Rule) → rule-of (now t) ≡ given a → Free (words-of (now table)) i to (count a) (weight a)) ⌝ }
     ensures { λ p. ⌜ ((a : Rule) → rule-of (now (t .entry)) ≡ given a
         → Run (words-of (now (table .entry))) (words-of (now (table .exit))) i to (nodes a) × (p ≡ to + weight a)) ⌝ }
 {

@@ -3,20 +3,21 @@
 use crate::place;
 use tables::words;
 ghost use mathlib.Core.Path.{_≡_};
-ghost use Prim.Native.Nat.{ℕ, _+_, _*_, _-_, _<_, _≤_};
+ghost use mathlib.Core.List.{map};
+ghost use Prim.Native.Nat.{ℕ, _+_, _<_, _≤_};
 ghost use lib.Dec.{T};
 ghost use lib.IntN.{pos};
 ghost use lib.ListN.{length, getD};
-ghost use Rattle.rules.specs.Rule.{Rule, Not, Some};
+ghost use Rattle.rules.specs.Rule.{Rule, Not, Some, for-some};
 ghost use Rattle.rules.specs.Result.{given};
-ghost use Rattle.rules.specs.Table.{most-words, nodes, size as size-of, is-setting};
-ghost use Rattle.rules.specs.LeaveOff.{all-settings, others, question as question-of};
+ghost use Rattle.rules.specs.Table.{bind-node, most-words, count, nodes, size as size-of, is-setting, all-settings};
+ghost use Rattle.rules.specs.LeaveOff.{others, question as question-of};
 ghost use Rattle.rules.specs.Calls.{words as words-of, rule-of};
 ghost use Rattle.rules.proofs.Sizes.{weight};
 ghost use Rattle.tables.specs.Checks.{Verdict};
 ghost use Rattle.tables.specs.Standing.{TableAt};
 ghost use Rattle.tables.specs.declared.check.Checked.the-variants.{Table};
-ghost use Rattle.questions.specs.Placing.{Free, Run, somes};
+ghost use Rattle.finishing.specs.Placing.{Free, Run};
 
 // The kinds of its own nodes.
 const AND: usize = 2;
@@ -25,8 +26,8 @@ const NOT: usize = 4;
 
 const SOME: usize = 8;
 
-// How many words the question on the rule of the table t has: t's entries and bodies twice, nine entries and 17 words of
-// its own nodes, and the count.
+// How many words the question on the rule of the table t has: t's entries and bodies twice, nine entries and 17 words
+// of its own nodes, and the count.
 pub fn size(t: &[u8]) -> usize
     ensures { λ s. ⌜ ((r : Rule) (v : ℕ) → rule-of (now (t .entry)) ≡ given r → T (is-setting (pos v))
         → s ≡ size-of (question-of v r)) ⌝ }
@@ -49,7 +50,7 @@ fn other(i: usize, v: usize) -> usize
 fn outer(table: &mut [u8], to: usize, v: usize)
     requires { ⌜ Free (words-of (now table)) 0 to 5 10 × T (is-setting (pos v)) ⌝ }
     ensures { λ _. ⌜ Run (words-of (now (table .entry))) (words-of (now (table .exit))) 0 to
-        (somes (others v all-settings)) ⌝ }
+        (map (bind-node for-some) (others v all-settings)) ⌝ }
 {
     let mut i: usize = 0;
     while i < 5 {
@@ -61,7 +62,8 @@ fn outer(table: &mut [u8], to: usize, v: usize)
 // "for some v, F", from node i on. The place behind it.
 fn holds(t: &[u8], n: usize, v: usize, table: &mut [u8], i: usize, to: usize) -> usize
     requires { ⌜ Verdict (rule-of (now t)) (Table n) × T (is-setting (pos v))
-        × Free (words-of (now table)) i to (1 + n) (2 + (length (words-of (now t)) - (n + 1))) ⌝ }
+        × ((a : Rule) → rule-of (now t) ≡ given a
+        → Free (words-of (now table)) i to (count (Some v a)) (weight (Some v a))) ⌝ }
     ensures { λ p. ⌜ ((a : Rule) → rule-of (now (t .entry)) ≡ given a
         → Run (words-of (now (table .entry))) (words-of (now (table .exit))) i to (nodes (Some v a))
         × (p ≡ to + weight (Some v a))) ⌝ }
@@ -73,7 +75,8 @@ fn holds(t: &[u8], n: usize, v: usize, table: &mut [u8], i: usize, to: usize) ->
 // "for some v, not F", from node i on.
 fn fails(t: &[u8], n: usize, v: usize, table: &mut [u8], i: usize, to: usize)
     requires { ⌜ Verdict (rule-of (now t)) (Table n) × T (is-setting (pos v))
-        × Free (words-of (now table)) i to (2 + n) (3 + (length (words-of (now t)) - (n + 1))) ⌝ }
+        × ((a : Rule) → rule-of (now t) ≡ given a
+        → Free (words-of (now table)) i to (count (Some v (Not a))) (weight (Some v (Not a)))) ⌝ }
     ensures { λ _. ⌜ ((a : Rule) → rule-of (now (t .entry)) ≡ given a
         → Run (words-of (now (table .entry))) (words-of (now (table .exit))) i to (nodes (Some v (Not a)))) ⌝ }
 {

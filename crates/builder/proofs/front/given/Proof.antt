@@ -10,7 +10,7 @@ use mir.Facts.{toZ-ofZ}
 use borrow.Author.Needs.{needs, sfits-of}
 use Rattle.rules.specs.Calls.{words}
 use Rattle.builder.specs.Built.{Ends}
-use Rattle.builder.proofs.EndLaws.{run-none, run-more, run-all}
+use Rattle.builder.proofs.EndLaws.{sum-none, sum-more, sum-all}
 use Rattle.builder.proofs.front.given.Statement.{statement}
 use Rattle.builder.proofs.front.given.Tie as tie
 
@@ -23,7 +23,7 @@ abbrev μ-loop : tie.MeasureT-loop
 μ-loop out₀ used sum u₀ i₀ out u i = i
 
 loop-holds : tie.Need-loop-holds Inv-loop μ-loop
-loop-holds c = (search needs, refl, refl, λ l b. run-none (c .before .args .sum .now) _ _ l _ refl b)
+loop-holds c = (search needs, refl, refl, λ l b. sum-none (c .before .args .sum .now) _ _ l b)
 
 sub-i : tie.Need-sub-i Inv-loop μ-loop
 sub-i c = search needs
@@ -46,7 +46,7 @@ loop-again c =
       omega arith,
       omega arith,
       put .kept .0 ∙ inv .2,
-      λ l b. run-more _ _ _ l (loop .i) _ (omega arith) (omega arith) (toZ-ofZ (sfits-of (got .ok)) ∙ got .ensures)
+      λ l b. sum-more _ _ _ l (loop .i) _ (omega arith) (omega arith) (toZ-ofZ (sfits-of (got .ok)) ∙ got .ensures)
           (put .ensures .0 _ (inv .3 l b)),
     )
 
@@ -56,7 +56,7 @@ same-length c = c .before .loop .inv .2
 returns : tie.Need-returns Inv-loop μ-loop
 returns c =
     let loop = c .before .loop in
-    (λ l b. run-all _ _ _ l (loop .i) (omega arith) (loop .inv .3 l b), omega arith)
+    (λ l b. sum-all _ _ _ l (loop .i) (omega arith) (loop .inv .3 l b), omega arith)
 
 pub given-spec : {M : Type 1} → statement M
 given-spec =

@@ -1,37 +1,30 @@
--- `push::bind` meets its contract: its field is put first, then its kind.
+-- `push::bind` meets its contract: its setting is put first, then its kind.
 -- Assumes nothing.
-use mathlib.Core.Path.{_∙_}
-use mir.Facts.{toZ-ofZ}
-use borrow.Author.Needs.{needs, sfits-of}
-use Rattle.builder.proofs.BuiltLaws.{built-more, bind-body}
+use mathlib.Core.Path.{refl}
+use mathlib.Core.Bool.{Bool}
+use borrow.Author.Needs.{needs}
+use Rattle.rules.specs.Table.{bind-node, body}
+use Rattle.builder.specs.Built.{quantifier}
 use Rattle.builder.proofs.push.bind.Statement.{statement}
 use Rattle.builder.proofs.push.bind.Tie as tie
 
 number-requires : tie.Need-number-requires
 number-requires c κs = search needs
 
-kind-requires : tie.Need-kind-requires
-kind-requires c κs = search needs
-
-word-requires : tie.Need-word-requires
-word-requires c κs = search needs
-
-add-t12 : tie.Need-add-t12
-add-t12 c = search needs
+either-requires : tie.Need-either-requires
+either-requires c κs = search needs
 
 same-length : tie.Need-same-length
 same-length c = search needs
 
 returns : tie.Need-returns
+unfolding body quantifier
 returns c =
-    let put = c .before .before .before in
-    let kind = put .before .kind in
-    let first = put .before .before .before .before .before in
-    let args = first .before .before .before .args in
-    λ ds. built-more _ _ _ _ _ _ ds
-    (bind-body (args .some) (args .v) _ (toZ-ofZ (sfits-of (kind .ok)) ∙ kind .ensures))
-    (λ l e. put .word .ensures .0 _ (first .number .ensures .0 l e))
+    let put = c .before .before in
+    let field = put .before .before .before .before in
+    let v = field .before .before .before .args .v in
+    λ ds b. put .either .ensures (λ (q : Bool). bind-node (quantifier q) v) _ ds refl refl (b .counted)
+    (field .number .ensures .0 _ (b .ends))
 
 pub bind-spec : {M : Type 1} → statement M
-bind-spec =
-    tie.close (tie.spec number-requires kind-requires word-requires add-t12 same-length returns)
+bind-spec = tie.close (tie.spec number-requires either-requires same-length returns)

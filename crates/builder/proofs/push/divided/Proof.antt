@@ -1,9 +1,10 @@
 -- `push::divided` meets its contract: the sum is put first, then the divisor, then the kind.
 -- Assumes nothing.
-use mathlib.Core.Path.{_∙_}
-use mir.Facts.{toZ-ofZ}
-use borrow.Author.Needs.{needs, sfits-of}
-use Rattle.builder.proofs.BuiltLaws.{built-more, divided-body}
+use mathlib.Core.Path.{refl}
+use mathlib.Core.Bool.{Bool}
+use borrow.Author.Needs.{needs}
+use Rattle.rules.specs.Rule.{divisible}
+use Rattle.rules.specs.Table.{literal-node, body}
 use Rattle.builder.proofs.push.divided.Statement.{statement}
 use Rattle.builder.proofs.push.divided.Tie as tie
 
@@ -13,37 +14,23 @@ given-requires c κs = search needs
 number-requires : tie.Need-number-requires
 number-requires c κs = search needs
 
-kind-requires : tie.Need-kind-requires
-kind-requires c κs = search needs
-
-word-requires : tie.Need-word-requires
-word-requires c κs = search needs
-
-add-t16 : tie.Need-add-t16
-add-t16 c = search needs
+either-requires : tie.Need-either-requires
+either-requires c κs = search needs
 
 same-length : tie.Need-same-length
 same-length c = search needs
 
 returns : tie.Need-returns
+unfolding body
 returns c =
-    let put = c .before .before .before in
-    let kind = put .before .kind in
-    let second = put .before .before .before .before .before in
-    let first = second .before .before .before .before in
-    let args = first .before .before .before .args in
-    λ ds. built-more _ _ _ _ _ _ ds
-    (divided-body (args .yes) (args .k) (args .sum .now) _ (toZ-ofZ (sfits-of (kind .ok)) ∙ kind .ensures))
-    (λ l e. put .word .ensures .0 _ (second .number .ensures .0 _ (first .given .ensures .0 l e)))
+    let put = c .before .before in
+    let divisor = put .before .before .before .before in
+    let fields = divisor .before .before .before .before in
+    let args = fields .before .before .before .args in
+    let k = args .k in
+    let s = args .sum .now in
+    λ ds b. put .either .ensures (λ (yes : Bool). literal-node (divisible yes k) s) _ ds refl refl (b .counted)
+    (divisor .number .ensures .0 _ (fields .given .ensures .0 _ (b .ends)))
 
 pub divided-spec : {M : Type 1} → statement M
-divided-spec =
-    tie.close
-    (tie.spec
-    given-requires
-    number-requires
-    kind-requires
-    word-requires
-    add-t16
-    same-length
-    returns)
+divided-spec = tie.close (tie.spec given-requires number-requires either-requires same-length returns)

@@ -1,37 +1,31 @@
--- `push::join` meets its contract: its field is put first, then its kind.
+-- `push::join` meets its contract: its right child is put first, then its kind.
 -- Assumes nothing.
-use mathlib.Core.Path.{_∙_}
-use mir.Facts.{toZ-ofZ}
-use borrow.Author.Needs.{needs, sfits-of}
-use Rattle.builder.proofs.BuiltLaws.{built-more, join-body}
+use mathlib.Core.Bool.{Bool}
+use lib.IntN.{pos}
+use borrow.Author.Needs.{needs}
+use Rattle.rules.specs.Table.{join-node, body}
+use Rattle.builder.specs.Built.{junction}
+use Rattle.builder.proofs.BuiltLaws.{right-child}
 use Rattle.builder.proofs.push.join.Statement.{statement}
 use Rattle.builder.proofs.push.join.Tie as tie
 
 number-requires : tie.Need-number-requires
 number-requires c κs = search needs
 
-kind-requires : tie.Need-kind-requires
-kind-requires c κs = search needs
-
-word-requires : tie.Need-word-requires
-word-requires c κs = search needs
-
-add-t12 : tie.Need-add-t12
-add-t12 c = search needs
+either-requires : tie.Need-either-requires
+either-requires c κs = search needs
 
 same-length : tie.Need-same-length
 same-length c = search needs
 
 returns : tie.Need-returns
+unfolding body junction
 returns c =
-    let put = c .before .before .before in
-    let kind = put .before .kind in
-    let first = put .before .before .before .before .before in
-    let args = first .before .before .before .args in
-    λ ds. built-more _ _ _ _ _ _ ds
-    (join-body (args .both) (args .right) _ (toZ-ofZ (sfits-of (kind .ok)) ∙ kind .ensures))
-    (λ l e. put .word .ensures .0 _ (first .number .ensures .0 l e))
+    let put = c .before .before in
+    let field = put .before .before .before .before in
+    let n = field .before .before .before .args .right in
+    λ ds b. put .either .ensures (λ (j : Bool). join-node (junction j) (pos n)) _ ds (right-child _ n)
+    (right-child _ n) (b .counted) (field .number .ensures .0 _ (b .ends))
 
 pub join-spec : {M : Type 1} → statement M
-join-spec =
-    tie.close (tie.spec number-requires kind-requires word-requires add-t12 same-length returns)
+join-spec = tie.close (tie.spec number-requires either-requires same-length returns)

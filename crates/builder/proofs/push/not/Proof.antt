@@ -1,7 +1,9 @@
 -- `push::not` meets its contract: its kind is its body.
 -- Assumes nothing.
+use mathlib.Core.Path.{refl}
 use borrow.Author.Needs.{needs}
-use Rattle.builder.proofs.BuiltLaws.{built-more, not-body}
+use Rattle.rules.specs.Table.{not-node, body}
+use Rattle.builder.proofs.BuiltLaws.{built-more}
 use Rattle.builder.proofs.push.not.Statement.{statement}
 use Rattle.builder.proofs.push.not.Tie as tie
 
@@ -15,9 +17,10 @@ same-length : tie.Need-same-length
 same-length c = search needs
 
 returns : tie.Need-returns
+unfolding body
 returns c =
     let put = c .before .before .before in
-    λ ds. built-more _ _ _ _ _ _ ds not-body (put .word .ensures .0)
+    λ ds b. built-more _ _ _ _ not-node ds refl (b .counted) (put .word .ensures .0 _ (b .ends))
 
 pub not-spec : {M : Type 1} → statement M
 not-spec = tie.close (tie.spec word-requires add-t6 same-length returns)

@@ -7,8 +7,8 @@ use lib.ListN.{length}
 use mir.Facts.{toZ-ofZ}
 use borrow.Author.Needs.{sfits-of}
 use Rattle.rules.specs.Calls.{words}
-use Rattle.tables.proofs.WordLaws.{words-length}
-use Rattle.finishing.proofs.CopyLaws.{Copied, copied-none, copied-more, copied-all, same-words}
+use Rattle.tables.proofs.WordLaws.{words-length, same-words}
+use Rattle.finishing.proofs.CopyLaws.{Copied, copied-none, copied-more, copied-all}
 use Rattle.finishing.proofs.finish.copy.Statement.{statement}
 use Rattle.finishing.proofs.finish.copy.Tie as tie
 

@@ -5,9 +5,8 @@ use native.Mathlib.Omega.{arith}
 use borrow.Author.Needs.{needs}
 use Rattle.rules.specs.Sum.{limit}
 use Rattle.rules.specs.Calls.{words}
-use Rattle.tables.proofs.WordLaws.{words-length}
+use Rattle.tables.proofs.WordLaws.{words-length, same-words}
 use Rattle.builder.proofs.EndLaws.{number-fits}
-use Rattle.finishing.proofs.CopyLaws.{same-words}
 use Rattle.finishing.proofs.NodeLaws.{ReadNode, CopiedNode, put-is, first-inside, copy-inside}
 use Rattle.finishing.proofs.NodeLaws.{second-inside, child-low, other-placed, join-placed}
 use Rattle.finishing.proofs.finish.node.Statement.{statement}
@@ -44,7 +43,7 @@ copied-node c =
     let width = put .before .before in
     let start = width .before .before .before .before in
     let args = start .args in
-    let low : args .to ≤ limit = omega (arith, start .pre .placeable .most) in
+    let low : args .to ≤ limit = omega (arith, start .pre .placeable .free .most) in
     record {
       read = read-node width;
       vs = words (put .put .last .0);

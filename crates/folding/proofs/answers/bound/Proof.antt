@@ -2,7 +2,7 @@
 -- Assumes nothing.
 use native.Mathlib.Omega.{arith}
 use borrow.Author.Needs.{needs}
-use Rattle.folding.proofs.AnswerLaws.{answered-fewer, stood-countable, bound-gives}
+use Rattle.folding.proofs.UnderLaws.{answered-fewer, stood-countable, bound-gives}
 use Rattle.folding.proofs.answers.bound.Statement.{statement}
 use Rattle.folding.proofs.answers.bound.Tie as tie
 

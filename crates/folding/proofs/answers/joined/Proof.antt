@@ -3,8 +3,8 @@
 use mathlib.Core.Path.{sym, _∙_}
 use native.Mathlib.Omega.{arith}
 use borrow.Author.Needs.{needs}
-use Rattle.folding.proofs.AnswerLaws.{settled-left, dropped-left, dropped-right, both-built, both-join}
-use Rattle.folding.proofs.AnswerLaws.{JoinAsks, join-asks}
+use Rattle.folding.proofs.JoinLaws.{settled-left, dropped-left, dropped-right, both-built, both-join}
+use Rattle.folding.proofs.JoinLaws.{JoinAsks, join-asks}
 use Rattle.folding.proofs.answers.joined.Statement.{statement}
 use Rattle.folding.proofs.answers.joined.Tie as tie
 
@@ -20,7 +20,7 @@ settles-requires c κs = search needs
 returns : tie.Need-returns
 returns c =
     let told = c .before .before in
-    λ x y ds. settled-left _ (told .before .before .before .args .both) _ ds x y _ _ _ (told .enum-told .given .1)
+    λ x y ds. settled-left _ (told .before .before .before .args .both) _ ds x y _ _
     (sym (c .before .settles .ensures) ∙ c .if1 .taken)
 
 returns-2 : tie.Need-returns-2

@@ -1,7 +1,7 @@
 -- `answers::negated` meets its contract: a truth value is turned round, a not is put before anything else.
 -- Assumes nothing.
 use borrow.Author.Needs.{needs}
-use Rattle.folding.proofs.AnswerLaws.{answered-countable, not-known, not-pushed}
+use Rattle.folding.proofs.UnderLaws.{pushed-countable, not-known, not-pushed}
 use Rattle.folding.proofs.answers.negated.Statement.{statement}
 use Rattle.folding.proofs.answers.negated.Tie as tie
 
@@ -14,7 +14,7 @@ enum-known-inner-2 c = search needs
 not-requires : tie.Need-not-requires
 not-requires c κs =
     let pushed = c .before .before in
-    answered-countable _ _ _ _ _ (pushed .inner2 .given .1) (pushed .before .before .before .pre)
+    pushed-countable _ _ _ _ _ (pushed .inner2 .given .1) (pushed .before .before .before .pre)
 
 returns : tie.Need-returns
 returns c = λ x ds. not-known _ _ ds x _ _ (c .before .inner .given .1)

@@ -1,7 +1,8 @@
 -- `answers::stood` meets its contract: a truth value is put, anything else was put.
 -- Assumes nothing.
 use borrow.Author.Needs.{needs}
-use Rattle.folding.proofs.AnswerLaws.{known-countable, known-stood, gives-pushed}
+use Rattle.folding.proofs.AnswerLaws.{gives-pushed}
+use Rattle.folding.proofs.UnderLaws.{known-countable, known-stood}
 use Rattle.folding.proofs.answers.stood.Statement.{statement}
 use Rattle.folding.proofs.answers.stood.Tie as tie
 

@@ -1,7 +1,7 @@
 -- `question::other` meets its contract: below v a setting is its number and one, from v on its number and two.
 -- Assumes nothing.
 use borrow.Author.Needs.{needs}
-use Rattle.questions.proofs.QuestionLaws.{low-other, high-other}
+use Rattle.questions.proofs.OtherLaws.{low-other, high-other}
 use Rattle.questions.proofs.question.other.Statement.{statement}
 use Rattle.questions.proofs.question.other.Tie as tie
 

@@ -5,8 +5,9 @@ use Prim.Native.Nat.{_-_, _≤_}
 use native.Mathlib.Omega.{arith}
 use lib.ListN.{length}
 use Rattle.rules.specs.Calls.{words}
-use Rattle.finishing.proofs.CopyLaws.{same-words}
-use Rattle.questions.proofs.QuestionLaws.{Outer, outer-none, outer-more, outer-all, some-body}
+use Rattle.tables.proofs.WordLaws.{same-words}
+use Rattle.questions.proofs.OtherLaws.{Outer, outer-none, outer-more, outer-all}
+use Rattle.questions.proofs.QuestionLaws.{some-body}
 use Rattle.questions.proofs.question.outer.Statement.{statement}
 use Rattle.questions.proofs.question.outer.Tie as tie
 
@@ -42,7 +43,7 @@ two-requires c κs =
       record {
         entries = omega (arith, free .entries);
         bodies = omega (arith, free .bodies, same);
-        most = omega (arith, free .most, same);
+        most = omega (arith, free .most);
       },
       omega arith,
       omega (arith, c .other .ensures .1),

@@ -1,4 +1,4 @@
--- Nodes put into a table one after the other: none, one, one run behind another, and all of a table.
+-- Nodes put into a table one after the other: their room; none, one, one run behind another, and all of a table.
 -- Assumes nothing.
 use mathlib.Core.Path.{_≡_, refl, sym, ap, ap₂, _∙_, subst}
 use mathlib.Core.List.{List, [], _∷_, _++_, append-assoc, append-nil}
@@ -7,15 +7,13 @@ use native.Mathlib.Nat.{add-zero}
 use native.Mathlib.Omega.{arith}
 use lib.IntN.{ℤ, pos}
 use lib.ListN.{length, set, take, drop, length-set, length-drop, take-append-drop, drop-of-length-le}
-use lib.Seq.{sets, length-sets, sets-eq, take-suc-set, take-set-lt, set-append-left, length-take-le}
+use lib.Seq.{sets, length-sets, sets-eq, set-append-left, length-take-le}
 use Rattle.rules.specs.Rule.{Rule}
-use Rattle.rules.specs.Table.{Node, body, count, nodes, starts, bodies, encode}
-use Rattle.rules.proofs.Sizes.{words, total, length-body, length-nodes, length-starts}
+use Rattle.rules.specs.Table.{Node, most-words, body, count, nodes, starts, bodies, table, encode, size}
+use Rattle.rules.proofs.Sizes.{words, weight, total, length-body, length-nodes, length-starts, size-is}
 use Rattle.tables.specs.Standing.{TableAt}
-use Rattle.tables.proofs.Standings.{width-is, starts-append, bodies-append}
-use Rattle.finishing.specs.Finishing.{Placed}
-use Rattle.finishing.proofs.FinishLaws.{first-word, table-is}
-use Rattle.questions.specs.Placing.{Free, Run}
+use Rattle.tables.proofs.Standings.{starts-append, bodies-append}
+use Rattle.finishing.specs.Placing.{Free, Run}
 
 pub total-append : (ds es : List Node) → total (ds ++ es) ≡ total ds + total es
 unfolding total
@@ -28,7 +26,7 @@ pub free-part : {ts us : List ℤ} {i to m w : ℕ} (j p k x : ℕ) → Free ts 
 free-part j p k x free same nodes behind words = record {
   entries = omega (arith, free .entries, nodes, behind);
   bodies = omega (arith, free .bodies, same, words);
-  most = omega (arith, free .most, same);
+  most = omega (arith, free .most, words);
 }
 
 -- ---- stores one after the other
@@ -63,34 +61,6 @@ run-one {ts} {vs} {i} {to} {x} d e s =
     record {
       begins = ap (λ (k : ℕ). take (to + k) vs) long ∙ s .begins
           ∙ ap (λ (l : List ℤ). set (take to ts) (i + 1) (pos to) ++ l) (sym (append-nil (body i d) ∙ e));
-    }
-
-pub run-placed : {ts vs : List ℤ} {i to w : ℕ} {d : Node} → Placed ts vs i to w d → Run ts vs i to (d ∷ [])
-run-placed {vs = vs} {i} {to} {w} {d} p =
-    let long : length (body i d) ≡ w = omega (arith, length-body i d, width-is d, p .wide) in
-    run-one d refl (record { begins = ap (λ (k : ℕ). take (to + k) vs) long ∙ p .begins })
-
--- its entry is put, which makes us of ts, and its kind, which makes vs of us
-pub kind-stored : {ts us vs : List ℤ} {i to : ℕ} (k : ℤ) → i + 1 < to → to < length ts → us ≡ set ts (i + 1) (pos to)
-    → vs ≡ set us to k → Stored ts vs i to (k ∷ [])
-kind-stored {ts} {us} {vs} {i} {to} k before inside e f =
-    let next : to + 1 ≡ suc to = omega arith in
-    let there : to < length us = omega (arith, ap length e, length-set ts (i + 1) (pos to)) in
-    record {
-      begins = ap (λ (n : ℕ). take n vs) next ∙ ap (take (suc to)) f ∙ take-suc-set us to k there
-          ∙ ap (λ (l : List ℤ). take to l ++ k ∷ []) e
-          ∙ ap (λ (l : List ℤ). l ++ k ∷ []) (take-set-lt to ts (i + 1) (pos to) before);
-    }
-
--- and a field behind it, which makes xs of vs
-pub field-stored : {ts vs xs : List ℤ} {i to : ℕ} {k : ℤ} (f : ℤ) → Stored ts vs i to (k ∷ []) → to + 1 < length vs
-    → xs ≡ set vs (to + 1) f → Stored ts xs i to (k ∷ f ∷ [])
-field-stored {ts} {vs} {xs} {i} {to} {k} f s inside e =
-    let next : to + 2 ≡ suc (to + 1) = omega arith in
-    record {
-      begins = ap (λ (n : ℕ). take n xs) next ∙ ap (take (suc (to + 1))) e ∙ take-suc-set vs (to + 1) f inside
-          ∙ ap (λ (l : List ℤ). l ++ f ∷ []) (s .begins)
-          ∙ append-assoc (set (take to ts) (i + 1) (pos to)) (k ∷ []) (f ∷ []);
     }
 
 -- ---- one run behind another
@@ -128,11 +98,28 @@ run-then {us = us} {vs} {i} {to} {j} ds es e f room inside r s =
 
 -- ---- all of a table
 
+first-word : (ts : List ℤ) (n : ℕ) → 0 < length ts → take (n + 1) (set ts 0 (pos n)) ≡ pos n ∷ take n (drop 1 ts)
+first-word [] n h = absurd (omega arith)
+first-word (t ∷ ts) n h = ap (λ (m : ℕ). take m (pos n ∷ ts)) (let next : n + 1 ≡ suc n = omega arith in next)
+
+table-is : (n : ℕ) (ds : List Node) → length ds ≡ n → pos n ∷ starts (n + 1) ds ++ bodies 0 ds ≡ table ds
+unfolding table
+table-is n ds e = ap (λ (m : ℕ). pos m ∷ starts (m + 1) ds ++ bodies 0 ds) (sym e)
+
 all-entries : (n : ℕ) (l s : List ℤ) → length l ≡ length s → sets (pos n ∷ l) 1 s ≡ pos n ∷ s
 all-entries n l s e =
     let none = drop-of-length-le (pos n ∷ l) {i = 1 + length s} (omega (arith, e)) in
     sets-eq s (pos n ∷ l) 1 (omega (arith, e))
     ∙ ap (λ (r : List ℤ). pos n ∷ s ++ r) none ∙ ap (λ (r : List ℤ). pos n ∷ r) (append-nil s)
+
+-- a table that has room has it behind its count
+pub table-free : {ts : List ℤ} {n : ℕ} (r : Rule) → n ≡ count r → size r ≤ length ts → size r ≤ most-words
+    → Free ts 0 (n + 1) (count r) (weight r)
+table-free r counted room most = record {
+  entries = omega (arith, counted);
+  bodies = omega (arith, counted, room, size-is r);
+  most = omega (arith, counted, most, size-is r);
+}
 
 -- the count is put, which makes ts of us, then all nodes
 pub run-table : (us : List ℤ) {ts vs : List ℤ} (n : ℕ) (r : Rule) → n ≡ count r → n + 1 ≤ length us
