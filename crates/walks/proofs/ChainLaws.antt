@@ -16,13 +16,12 @@ use Rattle.rules.specs.Literals.{some-literal, map-literals}
 use Rattle.rules.specs.Laws.{Each, WellFormed}
 use Rattle.rules.specs.Calls.{words}
 use Rattle.rules.proofs.Sizes.{weight, count-pos, weight-pos}
-use Rattle.tables.specs.Standing.{Stands, Few}
+use Rattle.tables.specs.Standing.{Stands}
 use Rattle.tables.proofs.WordLaws.{words-from}
-use Rattle.tables.proofs.WalkLaws.{part}
-use Rattle.tables.proofs.Parts.{few-part}
+use Rattle.tables.proofs.WordLaws.{part}
 use Rattle.tables.proofs.Standings.{entry, under-not, under-bind, inside-entries, inside-bodies}
 use Rattle.tables.proofs.Parts.{moved}
-use Rattle.walks.specs.Chain.{Chained, below, chain-words, wrap}
+use Rattle.walks.specs.Chain.{Chained, no-link, a-not, a-bind, below, chain-words, wrap}
 
 -- ---- one node more
 
@@ -45,53 +44,37 @@ words-more (suc k) (Literal t s) = refl
 words-more (suc k) (Bind q v a) = omega (arith, words-more k a)
 
 pub chained-more : (k : ℕ) (r : Rule) → Chained k r → Chained 1 (below k r) → Chained (suc k) r
-unfolding Chained below
-chained-more zero r c u = u
-chained-more (suc k) (Constant b) c u = absurd c
-chained-more (suc k) (Join j a b) c u = absurd c
-chained-more (suc k) (Not a) c u = chained-more k a c u
-chained-more (suc k) (Literal t s) c u = absurd c
-chained-more (suc k) (Bind q v a) c u = chained-more k a c u
+unfolding below
+chained-more k r (no-link s) u = u
+chained-more k r (a-not {k = i} a c) u = a-not a (chained-more i a c u)
+chained-more k r (a-bind {k = i} q v a c) u = a-bind q v a (chained-more i a c u)
 
 -- and one less: the last node of a chain, and the chain before it
 pub chained-last : (k : ℕ) (r : Rule) → Chained (suc k) r → Chained 1 (below k r)
-unfolding Chained below
+unfolding below
 chained-last zero r c = c
-chained-last (suc k) (Constant b) c = absurd c
-chained-last (suc k) (Join j a b) c = absurd c
-chained-last (suc k) (Not a) c = chained-last k a c
-chained-last (suc k) (Literal t s) c = absurd c
-chained-last (suc k) (Bind q v a) c = chained-last k a c
+chained-last (suc k) r (a-not a c) = chained-last k a c
+chained-last (suc k) r (a-bind q v a c) = chained-last k a c
 
 pub chained-less : (k m : ℕ) (r : Rule) → k ≤ m → Chained m r → Chained k r
-unfolding Chained
-chained-less zero m r h c = tt
-chained-less (suc k) zero r h c = absurd (omega arith)
-chained-less (suc k) (suc m) (Constant b) h c = absurd c
-chained-less (suc k) (suc m) (Join j a b) h c = absurd c
-chained-less (suc k) (suc m) (Not a) h c = chained-less k m a (omega arith) c
-chained-less (suc k) (suc m) (Literal t s) h c = absurd c
-chained-less (suc k) (suc m) (Bind q v a) h c = chained-less k m a (omega arith) c
+chained-less zero m r h c = no-link r
+chained-less (suc k) m r h (no-link s) = absurd (omega arith)
+chained-less (suc k) m r h (a-not {k = i} a c) = a-not a (chained-less k i a (omega arith) c)
+chained-less (suc k) m r h (a-bind {k = i} q v a c) = a-bind q v a (chained-less k i a (omega arith) c)
 
 -- ---- sizes
 
 pub chain-weight : (k : ℕ) (r : Rule) → Chained k r → weight r ≡ chain-words k r + weight (below k r)
-unfolding Chained below chain-words weight
-chain-weight zero r c = omega arith
-chain-weight (suc k) (Constant b) c = absurd c
-chain-weight (suc k) (Join j a b) c = absurd c
-chain-weight (suc k) (Not a) c = omega (arith, chain-weight k a c)
-chain-weight (suc k) (Literal t s) c = absurd c
-chain-weight (suc k) (Bind q v a) c = omega (arith, chain-weight k a c)
+unfolding below chain-words weight
+chain-weight k r (no-link s) = omega arith
+chain-weight k r (a-not {k = i} a c) = omega (arith, chain-weight i a c)
+chain-weight k r (a-bind {k = i} q v a c) = omega (arith, chain-weight i a c)
 
 pub chain-count : (k : ℕ) (r : Rule) → Chained k r → count r ≡ k + count (below k r)
-unfolding Chained below count
-chain-count zero r c = omega arith
-chain-count (suc k) (Constant b) c = absurd c
-chain-count (suc k) (Join j a b) c = absurd c
-chain-count (suc k) (Not a) c = omega (arith, chain-count k a c)
-chain-count (suc k) (Literal t s) c = absurd c
-chain-count (suc k) (Bind q v a) c = omega (arith, chain-count k a c)
+unfolding below count
+chain-count k r (no-link s) = omega arith
+chain-count k r (a-not {k = i} a c) = omega (arith, chain-count i a c)
+chain-count k r (a-bind {k = i} q v a c) = omega (arith, chain-count i a c)
 
 pub below-formed : (k : ℕ) (r : Rule) → WellFormed r → WellFormed (below k r)
 unfolding below Each
@@ -114,15 +97,12 @@ further es bs n p w k v r s =
 
 pub chain-stands : {es bs : List ℤ} {n p : ℕ} (k : ℕ) (r : Rule) → Chained k r → Stands es bs n p r
     → Stands (drop k es) (drop (chain-words k r) bs) (n + k) (p + chain-words k r) (below k r)
-unfolding Chained below chain-words
-chain-stands zero r c s = moved r refl refl (omega arith) (omega arith) s
-chain-stands (suc k) (Constant b) c s = absurd c
-chain-stands (suc k) (Join j a b) c s = absurd c
-chain-stands {es} {bs} {n} {p} (suc k) (Not a) c s =
-    further es bs n p 1 k (chain-words k a) (below k a) (chain-stands k a c (under-not a s))
-chain-stands (suc k) (Literal t u) c s = absurd c
-chain-stands {es} {bs} {n} {p} (suc k) (Bind q v a) c s =
-    further es bs n p 2 k (chain-words k a) (below k a) (chain-stands k a c (under-bind q v a s))
+unfolding below chain-words
+chain-stands k r (no-link s) at = moved s refl refl (omega arith) (omega arith) at
+chain-stands {es} {bs} {n} {p} k r (a-not {k = i} a c) at =
+    further es bs n p 1 i (chain-words i a) (below i a) (chain-stands i a c (under-not a at))
+chain-stands {es} {bs} {n} {p} k r (a-bind {k = i} q v a c) at =
+    further es bs n p 2 i (chain-words i a) (below i a) (chain-stands i a c (under-bind q v a at))
 
 -- in bytes, where w words were counted
 pub chain-part : (le lb : List ℕ) {n p : ℕ} (k w : ℕ) (r : Rule) → Chained k r → w ≡ chain-words k r
@@ -152,23 +132,14 @@ module _ {es bs : List ℤ} {n p : ℕ} (k : ℕ) (r : Rule) (c : Chained k r) (
       head (Literal t u) s = unfold nodes in entry _ _ s
       head (Bind q v a) s = unfold nodes in entry _ _ s
 
-pub chain-few : (le lb : List ℕ) {n p : ℕ} (k w : ℕ) (r : Rule) → Chained k r → w ≡ chain-words k r
-    → Stands (words le) (words lb) n p r → Few (words le) (words lb) n p → Few (part le k) (part lb w) (n + k) (p + w)
-chain-few le lb k w r c e s few =
-    let (nodes-there, words-there) = chain-inside k r c s in
-    few-part le lb k w (omega (arith, nodes-there)) (omega (arith, e, words-there)) few
-
 -- ---- folding
 
 pub wrap-fold : (g : Test → Sum → Rule) (k : ℕ) (r : Rule) → Chained k r
     → fold (map-literals g r) ≡ wrap k r (fold (map-literals g (below k r)))
-unfolding Chained below wrap fold map-literals
-wrap-fold g zero r c = refl
-wrap-fold g (suc k) (Constant b) c = absurd c
-wrap-fold g (suc k) (Join j a b) c = absurd c
-wrap-fold g (suc k) (Not a) c = ap fold-not (wrap-fold g k a c)
-wrap-fold g (suc k) (Literal t s) c = absurd c
-wrap-fold g (suc k) (Bind q v a) c = ap (Bind q v) (wrap-fold g k a c)
+unfolding below wrap fold map-literals
+wrap-fold g k r (no-link s) = refl
+wrap-fold g k r (a-not {k = i} a c) = ap fold-not (wrap-fold g i a c)
+wrap-fold g k r (a-bind {k = i} q v a c) = ap (Bind q v) (wrap-fold g i a c)
 
 -- no more words are put than those of the chain
 pub wrap-weight : (k : ℕ) (r f : Rule) → weight (wrap k r f) ≤ weight f + chain-words k r

@@ -14,7 +14,8 @@ use Rattle.rules.specs.Table.{most-words}
 use Rattle.rules.specs.Calls.{signed}
 use Rattle.tables.specs.Standing.{Stands}
 use Rattle.tables.proofs.Inversion.{Shape, shape, constant, join, negation, literal, bind}
-use Rattle.walks.specs.Chain.{unary, Chained, below, chain-words, LinkOf, ChainOf, SomeStands}
+use Rattle.walks.specs.Chain.{unary, Chained, no-link, a-not, a-bind, below, chain-words}
+use Rattle.walks.specs.Chain.{LinkOf, ChainOf, SomeStands}
 use Rattle.tables.proofs.Parts.{moved}
 use Rattle.walks.proofs.ChainLaws.{chain-stands, chain-inside, chained-more, words-more}
 
@@ -25,21 +26,19 @@ abbrev Goes : Rule → ℕ → Type 0
 Goes r v = (Chained 1 r × (v ≡ chain-words 1 r) × (1 ≤ v)) ⊎ ((unary r ≡ false) × (v ≡ 0))
 
 goes : {es bs : List ℤ} {n p kind v : ℕ} (r : Rule) → LinkOf kind v → Shape es bs n p kind r → Goes r v
-unfolding unary Chained chain-words
-goes r (none, some, all, other) (constant b l e) = inr (refl, other (omega arith) (omega arith) (omega arith))
-goes r (none, some, all, other) (join and a b i x) = inr (refl, other (omega arith) (omega arith) (omega arith))
-goes r (none, some, all, other) (join or a b i x) = inr (refl, other (omega arith) (omega arith) (omega arith))
-goes r (none, some, all, other) (negation a i x) = inl (tt, omega (arith, none i), omega (arith, none i))
-goes r (none, some, all, other) (literal positive s i x) =
-    inr (refl, other (omega arith) (omega arith) (omega arith))
-goes r (none, some, all, other) (literal (divisible true k) s i x) =
-    inr (refl, other (omega arith) (omega arith) (omega arith))
-goes r (none, some, all, other) (literal (divisible false k) s i x) =
-    inr (refl, other (omega arith) (omega arith) (omega arith))
-goes r (none, some, all, other) (literal is-zero s i x) =
-    inr (refl, other (omega arith) (omega arith) (omega arith))
-goes r (none, some, all, other) (bind for-some u a i w x) = inl (tt, omega (arith, some i), omega (arith, some i))
-goes r (none, some, all, other) (bind for-all u a i w x) = inl (tt, omega (arith, all i), omega (arith, all i))
+unfolding unary chain-words
+goes r link (constant b l e) = inr (refl, link .other (omega arith) (omega arith) (omega arith))
+goes r link (join and a b i x) = inr (refl, link .other (omega arith) (omega arith) (omega arith))
+goes r link (join or a b i x) = inr (refl, link .other (omega arith) (omega arith) (omega arith))
+goes r link (negation a i x) = inl (a-not a (no-link a), link .negation i, omega (arith, link .negation i))
+goes r link (literal positive s i x) = inr (refl, link .other (omega arith) (omega arith) (omega arith))
+goes r link (literal (divisible true k) s i x) = inr (refl, link .other (omega arith) (omega arith) (omega arith))
+goes r link (literal (divisible false k) s i x) = inr (refl, link .other (omega arith) (omega arith) (omega arith))
+goes r link (literal is-zero s i x) = inr (refl, link .other (omega arith) (omega arith) (omega arith))
+goes r link (bind for-some u a i w x) =
+    inl (a-bind for-some u a (no-link a), link .for-some i, omega (arith, link .for-some i))
+goes r link (bind for-all u a i w x) =
+    inl (a-bind for-all u a (no-link a), link .for-all i, omega (arith, link .for-all i))
 
 -- ---- the steps
 
@@ -48,16 +47,16 @@ unfoldable pub Reached : List ℤ → ℕ → ℕ → Type 0
 Reached bs k w = (es : List ℤ) (n p : ℕ) (a : Rule) → Stands es bs n p a → Chained k a × (w ≡ chain-words k a)
 
 pub reached-none : (bs : List ℤ) → Reached bs 0 0
-unfolding Reached Chained chain-words
-reached-none bs es n p a s = (tt, refl)
+unfolding Reached chain-words
+reached-none bs es n p a s = (no-link a, refl)
 
 module _ (bs : List ℤ) (k w : ℕ) (reached : Reached bs k w) where
   pub reached-inside : SomeStands bs → (w < length bs) × (w < most-words)
   unfolding Reached
   reached-inside some =
-      let (c, e) = reached (some .entries) (some .number) (some .place) (some .rule) (some .stands) in
-      let (nodes, words) = chain-inside k (some .rule) c (some .stands) in
-      (omega (arith, e, words), omega (arith, e, words, some .few .few-words))
+      let (c, e) = reached (some .entries) (some .number) (some .place) (some .rule) (some .at .stands) in
+      let (nodes, words) = chain-inside k (some .rule) c (some .at .stands) in
+      (omega (arith, e, words), omega (arith, e, words, some .at .few .few-words))
 
   -- the chain that was found, where it ends
   pub reached-ends : (most : ℕ) → k ≤ most

@@ -1,123 +1,63 @@
 -- The walk that folds a rule in a table, its literals changed: what it knows of a call once the kind is read, once the
--- right side is answered and once both sides are, and once a chain is found and what stands under it is answered.
+-- right side is answered and once both sides are.
 -- Assumes nothing.
-use mathlib.Core.Path.{_≡_, refl, sym, _∙_, ap, subst}
+use mathlib.Core.Path.{_≡_, sym, _∙_, ap, subst}
 use mathlib.Core.Bool.{Bool, true, false, not}
-use mathlib.Core.Logic.{_⊎_, inl, inr}
 use mathlib.Core.List.{List}
-use Prim.Native.Nat.{ℕ, _+_, _-_, _*_, _<_, _≤_}
+use Prim.Native.Nat.{ℕ, _+_, _<_, _≤_}
 use native.Mathlib.Omega.{arith}
 use lib.Dec.{T, eqb}
-use lib.IntN.{ℤ, pos}
-use lib.ListN.{length, getD}
+use lib.ListN.{length}
 use Rattle.whole.proofs.Tests.{not-or}
-use Rattle.rules.specs.Sum.{Sum, number, setting}
-use Rattle.rules.specs.Rule.{Junction, and, or, for-some, for-all}
-use Rattle.rules.specs.Rule.{Test, positive, divisible, is-zero, Rule, Constant, Join, Literal}
-use Rattle.rules.specs.Table.{Node, most-words, count}
+use Rattle.rules.specs.Sum.{Sum}
+use Rattle.rules.specs.Rule.{Junction, Test, positive, divisible, is-zero, Rule, Literal}
+use Rattle.rules.specs.Table.{Node}
 use Rattle.rules.specs.Fold.{fold, fold-join}
-use Rattle.rules.specs.Steps.{scaled, far-left, body-at}
 use Rattle.rules.specs.Literals.{some-literal, map-literals}
 use Rattle.rules.specs.Eliminate.{over-limit}
-use Rattle.rules.specs.Laws.{Each, InTable, WellFormed}
-use Rattle.rules.specs.Calls.{signed, words}
-use Rattle.rules.proofs.Sizes.{before-sum, weight, total}
-use Rattle.rules.proofs.OverLiterals.{each-imp}
-use Rattle.rules.proofs.Shapes.{seven-put}
-use Rattle.rules.proofs.Weights.{fold-lighter, Lighter, map-each-lighter}
-use Rattle.rules.proofs.Weights.{scaled-lighter, body-lighter, far-body-lighter}
-use Rattle.tables.specs.Standing.{Stands, Few, StandingJoin, RightOf}
+use Rattle.rules.specs.Calls.{words}
+use Rattle.rules.proofs.Sizes.{before-sum, weight}
 use Rattle.tables.specs.declared.sides.Side.{Side}
-use Rattle.tables.proofs.WordLaws.{words-length}
-use Rattle.tables.proofs.WalkLaws.{part}
-use Rattle.tables.proofs.Inversion.{test-kind, join-kind}
-use Rattle.tables.proofs.Parts.{bytes-from, bytes-length, moved, few-moved, few-part, root-there, right-there}
-use Rattle.tables.proofs.Parts.{Parts, parts, a-constant, a-join, a-not, a-literal, a-bind}
-use Rattle.builder.specs.Built.{Built, most-counted, junction}
+use Rattle.tables.proofs.WordLaws.{same-words}
+use Rattle.builder.specs.Built.{Built, Building, junction}
 use Rattle.builder.specs.declared.push.State.{State}
-use Rattle.builder.proofs.BuiltLaws.{built-countable}
+use Rattle.builder.proofs.BuiltLaws.{building-countable, building-less}
 use Rattle.folding.specs.Answers.{Gives, Sides, SomeSides, after, built-then, settled}
 use Rattle.folding.specs.declared.answers.Folded.{Folded}
 use Rattle.folding.specs.declared.answers.Folded.the-variants.{Known}
-use Rattle.folding.proofs.AnswerLaws.{built-of, total-then, settled-join, sides-of, some-sides-of}
+use Rattle.folding.proofs.AnswerLaws.{building-then, settled-join, sides-of, some-sides-of}
 use Rattle.literals.specs.Literal.{LiteralAt}
-use Rattle.literals.specs.Changes.{becomes, Fair, Usable}
-use Rattle.walks.specs.Literals.{SomeLiteralReady}
-use Rattle.walks.specs.Chain.{unary, below, wrap, ChainOf, SomeStands, Wrapping, SomeWrapping}
-use Rattle.walks.specs.Walk.{changed, Ready, SomeReady, Core, SomeCore}
+use Rattle.literals.specs.Changes.{becomes, Usable}
 use Rattle.literals.specs.declared.change.Change.{Change}
-use Rattle.literals.specs.declared.change.Change.the-variants.{Same, Scaled, Far, Full}
+use Rattle.walks.specs.Literals.{SomeChangeable}
+use Rattle.walks.specs.Walk.{changed, Ready, Core, SomeRule}
 use Rattle.walks.specs.declared.chain.Links.{Links}
-use Rattle.walks.proofs.ChainLaws.{chain-weight, below-formed, chain-part, chain-inside}
-use Rattle.walks.proofs.ChainLaws.{wrap-fold, over-below}
-
--- ---- a changed rule has no more words than before
-
-becomes-lighter : (c : Change) (u : Sum) → Usable c u → (t : Test) (s : Sum) → InTable t s → Lighter (becomes c u) t s
-unfolding becomes Fair Each
-becomes-lighter Same u h t s w = omega arith
-becomes-lighter (Scaled D x) u h t s w =
-    let (from, to) = h .fair .0 in
-    unfold scaled map-literals setting weight in
-    omega (
-      arith,
-      scaled-lighter D x (Literal t s) from to w,
-      seven-put x (pos 1) (number (pos 0)) (omega (arith, to)) refl,
-    )
-becomes-lighter (Far x) u h t s w =
-    unfold far-left map-literals in far-body-lighter x u (Literal t s) (omega (arith, h .fair .1)) (h .seven) w
-becomes-lighter (Full x) u h t s w =
-    unfold body-at map-literals in body-lighter x u (Literal t s) (omega (arith, h .fair .1)) (h .seven) w
-
-pub changed-lighter : (c : Change) (u : Sum) (a : Rule) → Usable c u → WellFormed a
-    → weight (fold (changed c u a)) ≤ weight a
-unfolding changed
-changed-lighter c u a h w = omega (
-  arith,
-  fold-lighter (changed c u a),
-  map-each-lighter (becomes c u) a (each-imp InTable (Lighter (becomes c u)) (becomes-lighter c u h) a w),
-)
+use Rattle.walks.proofs.ChangedLaws.{changed-lighter}
+use Rattle.walks.proofs.PartLaws.{Part, KindOf, right-part, left-part, inner-part}
+use Rattle.walks.proofs.PartLaws.{LiteralIn, JoinIn, constant-in, literal-in, join-in, kind-junction}
+use Rattle.walks.proofs.PartLaws.{FindsRight, right-here}
 
 -- ---- a call
 
--- what the walk is called with: two parts of a table's bytes with the number and the place of their first node, how its
--- literals are changed, and the bytes that the rule is built in, with the state that they are in
+-- what the walk is called with: where the rule stands, how its literals are changed, and the bytes that it is built in,
+-- with the state that they are in
 pub record Call : Type 0 where
-  pub entries : List ℕ
-  pub bodies : List ℕ
-  pub node : ℕ
-  pub place : ℕ
+  pub part : Part
   pub change : Change
   pub sum : Sum
   pub out : List ℕ
   pub state : State
 
 module _ (q : Call) where
-  abbrev pub Stood : Rule → Type 0
-  Stood a = Stands (words (q .entries)) (words (q .bodies)) (q .node) (q .place) a
-
-  abbrev pub Fewer : Type 0
-  Fewer = Few (words (q .entries)) (words (q .bodies)) (q .node) (q .place)
-
   abbrev pub ReadyFor : Rule → List Node → Type 0
   ReadyFor a ds =
-      Ready (words (q .entries)) (words (q .bodies)) (q .node) (q .place) (q .change) (q .sum) (words (q .out))
-      (q .state) a ds
-
-  abbrev pub SomeReadyFor : Type 0
-  SomeReadyFor =
-      SomeReady (words (q .entries)) (words (q .bodies)) (q .node) (q .place) (q .change) (q .sum) (words (q .out))
-      (q .state)
+      Ready (words (q .part .entries)) (words (q .part .bodies)) (q .part .node) (q .part .place) (q .change) (q .sum)
+      (words (q .out)) (q .state) a ds
 
   abbrev pub CoreFor : Rule → List Node → Type 0
   CoreFor a ds =
-      Core (words (q .entries)) (words (q .bodies)) (q .node) (q .place) (q .change) (q .sum) (words (q .out))
-      (q .state) a ds
-
-  abbrev pub SomeCoreFor : Type 0
-  SomeCoreFor =
-      SomeCore (words (q .entries)) (words (q .bodies)) (q .node) (q .place) (q .change) (q .sum) (words (q .out))
-      (q .state)
+      Core (words (q .part .entries)) (words (q .part .bodies)) (q .part .node) (q .part .place) (q .change) (q .sum)
+      (words (q .out)) (q .state) a ds
 
   -- the rule a as it is to be put
   abbrev pub made : Rule → Rule
@@ -130,152 +70,10 @@ module _ (q : Call) where
   abbrev pub FoldsCore : List ℕ → Folded → Type 0
   FoldsCore l r = (a : Rule) (ds : List Node) → CoreFor a ds → Gives (words l) (q .state) ds (made a) r
 
--- ---- the kind is read
-
-pub record Kinded (q : Call) (k : ℕ) : Type 0 where
-  pub some : SomeCoreFor q
-  pub first : getD (words (q .bodies)) 0 (pos 0) ≡ signed k
-
-pub first-word : (q : Call) → SomeCoreFor q → 0 < length (words (q .bodies))
-first-word q some = omega (arith, root-there (some .rule) (some .core .ready .stands) .1)
-
--- the kinds of literals lie behind those of joins
-test-kinds : (t : Test) → 3 < test-kind t
-test-kinds positive = omega arith
-test-kinds (divisible true k) = omega arith
-test-kinds (divisible false k) = omega arith
-test-kinds is-zero = omega arith
-
-literal-words : (t : Test) (s : Sum) → length s ≡ 7 → 8 ≤ weight (Literal t s)
-unfolding weight before-sum
-literal-words positive s e = omega arith
-literal-words (divisible b k) s e = omega arith
-literal-words is-zero s e = omega arith
-
--- a literal that is ready to be changed
-record LiteralFor (q : Call) (a : Rule) (ds : List Node) : Type 0 where
-  test : Test
-  sum : Sum
-  is : a ≡ Literal test sum
-  at : LiteralAt (words (q .bodies)) (q .node) test sum
-  ready : ReadyFor q (Literal test sum) ds
-
-module _ {q : Call} {k : ℕ} (node : Kinded q k) where
-  parts-of : (a : Rule) → Stood q a → Parts (q .entries) (q .bodies) (q .node) (q .place) k a
-  parts-of a s = parts {le = q .entries} {lb = q .bodies} k (node .first) a s
-
-  pub constant-gives : k < 2 → FoldsCore q (q .out) (Known (eqb k 1))
-  constant-gives low a ds h = go a (parts-of a (h .ready .stands)) (h .ready)
-    where
-      go : (a : Rule) → Parts (q .entries) (q .bodies) (q .node) (q .place) k a → ReadyFor q a ds
-          → Gives (words (q .out)) (q .state) ds (made q a) (Known (eqb k 1))
-      go a (a-constant v l e) r = unfold Gives changed map-literals fold in (ap Constant (sym e), r .built)
-      go a (a-join and x y e l m) r = absurd (omega arith)
-      go a (a-join or x y e l m) r = absurd (omega arith)
-      go a (a-not x e l) r = absurd (omega arith)
-      go a (a-literal t s e l) r = absurd (omega (arith, test-kinds t))
-      go a (a-bind for-some v x e w l) r = absurd (omega arith)
-      go a (a-bind for-all v x e w l) r = absurd (omega arith)
-
-  literal-for : 3 < k → (a : Rule) (ds : List Node) → CoreFor q a ds → LiteralFor q a ds
-  literal-for high a ds h = go a (parts-of a (h .ready .stands)) h
-    where
-      never : {A : Type 0} → true ≡ false → A
-      never e = absurd (subst T e tt)
-
-      go : (a : Rule) → Parts (q .entries) (q .bodies) (q .node) (q .place) k a → CoreFor q a ds → LiteralFor q a ds
-      go a (a-constant v l e) c = absurd (omega arith)
-      go a (a-join and x y e l m) c = absurd (omega arith)
-      go a (a-join or x y e l m) c = absurd (omega arith)
-      go a (a-not x e l) c = never (unfold unary in c .bare)
-      go a (a-literal t s e l) c =
-          let formed : InTable t s = unfold Each in c .ready .formed in
-          record {
-            test = t;
-            sum = s;
-            is = refl;
-            at = record { after = l .after; begins = l .begins; long = formed .0; fair = formed .2 };
-            ready = c .ready;
-          }
-      go a (a-bind j v x e w l) c = never (unfold unary in c .bare)
-
-  pub literal-asks : 3 < k → SomeLiteralReady (words (q .bodies)) (q .change) (q .sum) (q .state)
-  literal-asks high =
-      let some = node .some in
-      let l = literal-for high (some .rule) (some .tail) (some .core) in
-      let t = l .test in
-      let s = l .sum in
-      record {
-        node = q .node;
-        test = t;
-        sum = s;
-        at = l .at;
-        usable = l .ready .usable;
-        numbers = unfold changed map-literals in l .ready .numbers;
-        countable = built-countable (words (q .out)) (q .state) (some .tail) 9 (l .ready .built)
-            (omega (arith, l .ready .small, literal-words t s (l .at .long)));
-      }
-
-  pub literal-gives : 3 < k → (l : List ℕ) (r : Folded)
-      → ((n : ℕ) (t : Test) (s : Sum) (ds : List Node) → LiteralAt (words (q .bodies)) n t s
-      → Built (words (q .out)) (q .state) ds
-      → Gives (words l) (q .state) ds (fold (becomes (q .change) (q .sum) t s)) r)
-      → FoldsCore q l r
-  unfolding changed map-literals
-  literal-gives high l r promise a ds h =
-      let x = literal-for high a ds h in
-      subst (λ (y : Rule). Gives (words l) (q .state) ds (made q y) r) (sym (x .is))
-      (promise (q .node) (x .test) (x .sum) ds (x .at) (x .ready .built))
-
--- ---- the kind is a join's
-
-pub record JoinKind (q : Call) (k : ℕ) : Type 0 where
-  pub kinded : Kinded q k
-  pub low : 2 ≤ k
-  pub high : k ≤ 3
-
--- a join that is ready to be folded, and where its sides stand
-record JoinFor (q : Call) (k : ℕ) (a : Rule) (ds : List Node) : Type 0 where
-  left-side : Rule
-  right-side : Rule
-  is : a ≡ Join (junction (eqb k 2)) left-side right-side
-  left-at : Stands (part (q .entries) 1) (part (q .bodies) 2) (q .node + 1) (q .place + 2) left-side
-  right-at : Stands (part (q .entries) (1 + count left-side)) (part (q .bodies) (2 + weight left-side))
-      (q .node + (1 + count left-side)) (q .place + (2 + weight left-side)) right-side
-  ready : ReadyFor q (Join (junction (eqb k 2)) left-side right-side) ds
-
-pub kind-junction : (k : ℕ) (j : Junction) → k ≡ join-kind j → j ≡ junction (eqb k 2)
-unfolding junction
-kind-junction k and e = ap (λ (i : ℕ). junction (eqb i 2)) (sym e)
-kind-junction k or e = ap (λ (i : ℕ). junction (eqb i 2)) (sym e)
-
-join-for : {q : Call} {k : ℕ} → JoinKind q k → (a : Rule) (ds : List Node) → CoreFor q a ds → JoinFor q k a ds
-join-for {q} {k} node a ds h = go a (parts-of (node .kinded) a (h .ready .stands)) (h .ready)
-  where
-    go : (a : Rule) → Parts (q .entries) (q .bodies) (q .node) (q .place) k a → ReadyFor q a ds → JoinFor q k a ds
-    go a (a-constant v l e) r = absurd (omega (arith, node .low))
-    go a (a-join j x y e l m) r =
-        let is = ap (λ (i : Junction). Join i x y) (kind-junction k j e) in
-        record {
-          left-side = x;
-          right-side = y;
-          is = is;
-          left-at = l;
-          right-at = m;
-          ready = subst (λ (z : Rule). ReadyFor q z ds) is r;
-        }
-    go a (a-not x e l) r = absurd (omega (arith, node .high))
-    go a (a-literal t s e l) r = absurd (omega (arith, node .high, test-kinds t))
-    go a (a-bind for-some v x e w l) r = absurd (omega (arith, node .high))
-    go a (a-bind for-all v x e w l) r = absurd (omega (arith, node .high))
-
--- the calls on the two sides
+-- the calls on the two sides, and on what stands under a chain
 abbrev pub right-call : Call → Side → Call
 right-call q s = record {
-  entries = bytes-from (q .entries) (s .entries);
-  bodies = bytes-from (q .bodies) (s .bodies);
-  node = s .node;
-  place = s .place;
+  part = right-part (q .part) s;
   change = q .change;
   sum = q .sum;
   out = q .out;
@@ -284,184 +82,182 @@ right-call q s = record {
 
 abbrev pub left-call : Call → List ℕ → State → Call
 left-call q l b = record {
-  entries = bytes-from (q .entries) 4;
-  bodies = bytes-from (q .bodies) 8;
-  node = q .node + 1;
-  place = q .place + 2;
+  part = left-part (q .part);
   change = q .change;
   sum = q .sum;
   out = l;
   state = b;
 }
 
--- what is known of both sides of a join
-record SidesKnown (q : Call) (left right : Rule) (ds : List Node) : Type 0 where
-  inside : (1 + count left < length (words (q .entries))) × (2 + weight left ≤ length (words (q .bodies)))
-  formed-left : WellFormed left
-  formed-right : WellFormed right
-  numbers-left : T (not (some-literal over-limit (changed (q .change) (q .sum) left)))
-  numbers-right : T (not (some-literal over-limit (changed (q .change) (q .sum) right)))
-  small : total ds + weight left + weight right + 3 < most-counted
+abbrev pub inner-call : Call → Links → Call
+inner-call q links = record {
+  part = inner-part (q .part) links;
+  change = q .change;
+  sum = q .sum;
+  out = q .out;
+  state = q .state;
+}
 
-sides-known : {q : Call} (j : Junction) (x y : Rule) (ds : List Node) → ReadyFor q (Join j x y) ds
-    → SidesKnown q x y ds
-unfolding Each changed map-literals some-literal weight
-sides-known {q} j x y ds r =
-    let over : Rule → Bool = λ z. some-literal over-limit (changed (q .change) (q .sum) z) in
-    let (numbers-x, numbers-y) = not-or (over x) (over y) (r .numbers) in
-    record {
-      inside = right-there j x y (r .stands);
-      formed-left = r .formed .0;
-      formed-right = r .formed .1;
-      numbers-left = numbers-x;
-      numbers-right = numbers-y;
-      small = omega (arith, r .small);
-    }
+-- ---- the kind is read
 
--- the right side is found
-pub record RightFound (q : Call) (k : ℕ) (s : Side) : Type 0 where
-  pub join : JoinKind q k
-  pub found : (j : Junction) (x y : Rule) → Stood q (Join j x y) → RightOf (q .node) (q .place) x s
+pub record Kinded (q : Call) (k : ℕ) : Type 0 where
+  pub some : SomeRule (CoreFor q)
+  pub first : KindOf (q .part) k
 
-module _ {q : Call} {k : ℕ} (node : JoinKind q k) where
-  -- the join of the call
-  some-join : JoinFor q k (node .kinded .some .rule) (node .kinded .some .tail)
-  some-join = let some = node .kinded .some in join-for node (some .rule) (some .tail) (some .core)
+literal-words : (t : Test) (s : Sum) → length s ≡ 7 → 8 ≤ weight (Literal t s)
+unfolding weight before-sum
+literal-words positive s e = omega arith
+literal-words (divisible b k) s e = omega arith
+literal-words is-zero s e = omega arith
 
-  some-sides : SidesKnown q (some-join .left-side) (some-join .right-side) (node .kinded .some .tail)
-  some-sides = let x = some-join in sides-known _ (x .left-side) (x .right-side) _ (x .ready)
+module _ {q : Call} {k : ℕ} (node : Kinded q k) where
+  pub constant-gives : k < 2 → FoldsCore q (q .out) (Known (eqb k 1))
+  unfolding Gives changed map-literals fold
+  constant-gives low a ds core =
+      (ap (made q) (constant-in (q .part) k (node .first) low a (core .ready .at)), core .ready .building .built)
 
-  pub right-asks : StandingJoin (words (q .entries)) (words (q .bodies)) (q .node) (q .place) × Fewer q
-  right-asks =
-      let x = some-join in (
-        record {
-          joint = junction (eqb k 2);
-          left-side = x .left-side;
-          right-side = x .right-side;
-          stands = x .ready .stands;
-        },
-        x .ready .few,
-      )
+  literal-for : 3 < k → {a : Rule} {ds : List Node} → CoreFor q a ds → LiteralIn (q .part) a
+  literal-for high {a} core = literal-in (q .part) k (node .first) high a (core .bare) (core .ready .at)
 
-  pub entry-there : 4 ≤ length (q .entries)
-  entry-there = omega (arith, some-sides .inside .0, words-length (q .entries))
-
-  pub body-there : 8 ≤ length (q .bodies)
-  body-there = omega (arith, some-sides .inside .1, words-length (q .bodies))
-
-  pub left-shorter : length (bytes-from (q .entries) 4) < length (q .entries)
-  left-shorter = omega (arith, entry-there, bytes-length (q .entries) 4)
-
-  pub next-node : q .node + 1 ≤ most-words
-  next-node = omega (arith, some-sides .inside .0, some-join .ready .few .few-nodes)
-
-  pub next-place : q .place + 2 ≤ most-words
-  next-place = omega (arith, some-sides .inside .1, some-join .ready .few .few-words)
-
-module _ {q : Call} {k : ℕ} {s : Side} (right : RightFound q k s) where
-  right-of : {a : Rule} {ds : List Node} (x : JoinFor q k a ds) → RightOf (q .node) (q .place) (x .left-side) s
-  right-of x = right .found _ (x .left-side) (x .right-side) (x .ready .stands)
-
-  pub entries-there : s .entries ≤ length (q .entries)
-  entries-there =
-      let J = right .join in
-      omega (arith, right-of (some-join J) .entries-are, some-sides J .inside .0, words-length (q .entries))
-
-  pub bodies-there : s .bodies ≤ length (q .bodies)
-  bodies-there =
-      let J = right .join in
-      omega (arith, right-of (some-join J) .bodies-are, some-sides J .inside .1, words-length (q .bodies))
-
-  pub right-shorter : length (bytes-from (q .entries) (s .entries)) < length (q .entries)
-  right-shorter =
-      let J = right .join in
-      omega (arith, right-of (some-join J) .entries-are, entry-there J, bytes-length (q .entries) (s .entries))
-
-  right-ready : {a : Rule} {ds : List Node} (x : JoinFor q k a ds) → ReadyFor (right-call q s) (x .right-side) ds
-  right-ready {a} {ds} x =
-      let known = sides-known _ (x .left-side) (x .right-side) ds (x .ready) in
-      let found = right-of x in
-      let left = x .left-side in
-      let es = ap (λ (e : ℕ). words (bytes-from (q .entries) e)) (sym (found .entries-are)) in
-      let bs = ap (λ (e : ℕ). words (bytes-from (q .bodies) e)) (sym (found .bodies-are)) in
-      let n = sym (found .number-is) in
-      let p = sym (found .place-is) in
-      let few = few-part (q .entries) (q .bodies) (1 + count left) (2 + weight left)
-      (omega (arith, known .inside .0)) (known .inside .1) (x .ready .few) in
+  pub literal-asks : 3 < k → SomeChangeable (words (q .part .bodies)) (q .change) (q .sum) (q .state)
+  unfolding changed map-literals
+  literal-asks high =
+      let ready = node .some .ready .ready in
+      let l = literal-for high (node .some .ready) in
+      let wide = literal-words (l .test) (l .sum) (l .at .long) in
       record {
-        stands = moved (x .right-side) es bs n p (x .right-at);
-        few = few-moved es bs n p few;
-        formed = known .formed-right;
-        usable = x .ready .usable;
-        numbers = known .numbers-right;
-        built = x .ready .built;
-        small = omega (arith, known .small);
-        room = x .ready .room;
+        some = record { node = q .part .node; test = l .test; sum = l .sum; at = l .at };
+        usable = ready .usable;
+        numbers = subst (λ (a : Rule). T (not (some-literal over-limit (changed (q .change) (q .sum) a)))) (l .is)
+            (ready .numbers);
+        countable = building-countable 9 (ready .building) (omega (arith, wide, ap weight (l .is)));
       }
 
-  pub right-side-asks : SomeReadyFor (right-call q s)
-  right-side-asks = let x = some-join (right .join) in record {
-    rule = x .right-side;
-    tail = right .join .kinded .some .tail;
-    ready = right-ready x;
+  pub literal-gives : 3 < k → (l : List ℕ) (r : Folded)
+      → ((n : ℕ) (t : Test) (s : Sum) (ds : List Node) → LiteralAt (words (q .part .bodies)) n t s
+      → Built (words (q .out)) (q .state) ds
+      → Gives (words l) (q .state) ds (fold (becomes (q .change) (q .sum) t s)) r)
+      → FoldsCore q l r
+  unfolding changed map-literals
+  literal-gives high l r promise a ds core =
+      let x = literal-for high core in
+      subst (λ (y : Rule). Gives (words l) (q .state) ds (made q y) r) (sym (x .is))
+      (promise (q .part .node) (x .test) (x .sum) ds (x .at) (core .ready .building .built))
+
+-- ---- the kind is a join's
+
+pub record JoinKind (q : Call) (k : ℕ) : Type 0 where
+  pub kinded : Kinded q k
+  pub low : 2 ≤ k
+  pub high : k ≤ 3
+
+-- a join that is ready to be folded
+record JoinFor (q : Call) (k : ℕ) (a : Rule) (ds : List Node) : Type 0 where
+  join : JoinIn (q .part) k a
+  usable : Usable (q .change) (q .sum)
+  numbers-left : T (not (some-literal over-limit (changed (q .change) (q .sum) (join .left-side))))
+  numbers-right : T (not (some-literal over-limit (changed (q .change) (q .sum) (join .right-side))))
+  building : Building (words (q .out)) (q .state) ds (weight (join .left-side) + weight (join .right-side) + 3)
+
+module _ {q : Call} {k : ℕ} (node : JoinKind q k) where
+  join-for : {a : Rule} {ds : List Node} → CoreFor q a ds → JoinFor q k a ds
+  unfolding changed map-literals some-literal weight
+  join-for {a} core =
+      let join = join-in (q .part) k (node .kinded .first) (node .low) (node .high) a (core .ready .at) in
+      let over : Rule → Bool = λ z. some-literal over-limit (changed (q .change) (q .sum) z) in
+      let (left, right) = not-or (over (join .left-side)) (over (join .right-side))
+      (subst (λ (z : Rule). T (not (over z))) (join .is) (core .ready .numbers)) in
+      record {
+        join = join;
+        usable = core .ready .usable;
+        numbers-left = left;
+        numbers-right = right;
+        building = building-less (core .ready .building) (omega (arith, ap weight (join .is)));
+      }
+
+  some-join : JoinFor q k (node .kinded .some .rule) (node .kinded .some .tail)
+  some-join = join-for (node .kinded .some .ready)
+
+  -- the join of the call
+  pub join-there : JoinIn (q .part) k (node .kinded .some .rule)
+  join-there = some-join .join
+
+module _ {q : Call} {k : ℕ} {a : Rule} {ds : List Node} (x : JoinFor q k a ds) where
+  abbrev right-made : Rule
+  right-made = made q (x .join .right-side)
+
+  abbrev left-made : Rule
+  left-made = made q (x .join .left-side)
+
+  made-join : made q a ≡ fold-join (junction (eqb k 2)) left-made right-made
+  unfolding changed map-literals fold
+  made-join =
+      ap (made q) (x .join .is)
+      ∙ ap (λ (j : Junction). fold-join j left-made right-made) (kind-junction k (x .join .joint) (x .join .kind))
+
+  lighter : (weight left-made ≤ weight (x .join .left-side)) × (weight right-made ≤ weight (x .join .right-side))
+  lighter = (
+    changed-lighter (q .change) (q .sum) (x .join .left-side) (x .usable) (x .join .left-at .formed),
+    changed-lighter (q .change) (q .sum) (x .join .right-side) (x .usable) (x .join .right-at .formed),
+  )
+
+  right-ready : {s : Side} → FindsRight (q .part) s → ReadyFor (right-call q s) (x .join .right-side) ds
+  right-ready found = record {
+    at = right-here (x .join) found;
+    usable = x .usable;
+    numbers = x .numbers-right;
+    building = building-less (x .building) (omega arith);
   }
+
+pub right-side-asks : {q : Call} {k : ℕ} {s : Side} → JoinKind q k → FindsRight (q .part) s
+    → SomeRule (ReadyFor (right-call q s))
+right-side-asks node found = let x = some-join node in record {
+  rule = x .join .right-side;
+  tail = node .kinded .some .tail;
+  ready = right-ready x found;
+}
 
 -- ---- the right side is answered, and the bytes l are left
 
 pub record RightAnswered (q : Call) (k : ℕ) (s : Side) (l : List ℕ) (r : Folded) : Type 0 where
-  pub right : RightFound q k s
+  pub join : JoinKind q k
+  pub found : FindsRight (q .part) s
   pub answered : Folds (right-call q s) l r
   pub kept : length l ≡ length (q .out)
 
-made-join : (q : Call) (k : ℕ) {a : Rule} {ds : List Node} (x : JoinFor q k a ds)
-    → made q a ≡ fold-join (junction (eqb k 2)) (made q (x .left-side)) (made q (x .right-side))
-unfolding changed map-literals fold
-made-join q k x = ap (made q) (x .is)
-
 module _ {q : Call} {k : ℕ} {s : Side} {l : List ℕ} {r : Folded} (known : RightAnswered q k s l r) where
-  right-gives : {a : Rule} {ds : List Node} (x : JoinFor q k a ds)
-      → Gives (words l) (q .state) ds (made q (x .right-side)) r
-  right-gives {a} {ds} x = known .answered (x .right-side) ds (right-ready (known .right) x)
+  right-gives : {a : Rule} {ds : List Node} (x : JoinFor q k a ds) → Gives (words l) (q .state) ds (right-made x) r
+  right-gives {a} {ds} x = known .answered (x .join .right-side) ds (right-ready x (known .found))
 
   -- it settles the join
   pub settled-gives : settled (eqb k 2) r ≡ true → FoldsCore q l r
-  settled-gives e a ds h =
-      let x = join-for (known .right .join) a ds h in
-      subst (λ (y : Rule). Gives (words l) (q .state) ds y r) (sym (made-join q k x))
-      (settled-join (words l) (eqb k 2) (q .state) ds (made q (x .right-side)) (made q (x .left-side)) r e
-      (right-gives x))
+  settled-gives e a ds core =
+      let x = join-for (known .join) core in
+      subst (λ (y : Rule). Gives (words l) (q .state) ds y r) (sym (made-join x))
+      (settled-join (words l) (eqb k 2) (q .state) ds (right-made x) (left-made x) r e (right-gives x))
 
-  same-room : {a : Rule} {ds : List Node} (x : JoinFor q k a ds) → length (words l) ≤ most-words
-  same-room x =
-      omega (arith, x .ready .room, words-length l, words-length (q .out), known .kept)
+  -- what can be built then
+  building-behind : {a : Rule} {ds : List Node} {b : State} → b ≡ after (q .state) r → (x : JoinFor q k a ds)
+      → Building (words l) b (built-then ds (right-made x) r) (weight (x .join .left-side) + 3)
+  building-behind {ds = ds} e x =
+      let more = weight (x .join .left-side) + 3 in
+      subst (λ (c : State). Building (words l) c (built-then ds (right-made x) r) more) (sym e)
+      (building-then (right-made x) r (x .building) (right-gives x) (same-words l (q .out) (known .kept))
+      (omega (arith, lighter x .1)))
 
   left-ready : {a : Rule} {ds : List Node} {b : State} → b ≡ after (q .state) r → (x : JoinFor q k a ds)
-      → ReadyFor (left-call q l b) (x .left-side) (built-then ds (made q (x .right-side)) r)
-  left-ready {a} {ds} {b} e x =
-      let sides = sides-known _ (x .left-side) (x .right-side) ds (x .ready) in
-      let put = made q (x .right-side) in
-      record {
-        stands = x .left-at;
-        few = few-part (q .entries) (q .bodies) 1 2 (omega (arith, sides .inside .0)) (omega (arith, sides .inside .1))
-            (x .ready .few);
-        formed = sides .formed-left;
-        usable = x .ready .usable;
-        numbers = sides .numbers-left;
-        built = subst (λ (c : State). Built (words l) c (built-then ds put r)) (sym e)
-            (built-of (words l) (q .state) ds put r (right-gives x));
-        small = omega (
-          arith,
-          sides .small,
-          total-then ds put r,
-          changed-lighter (q .change) (q .sum) (x .right-side) (x .ready .usable) (sides .formed-right),
-        );
-        room = same-room x;
-      }
+      → ReadyFor (left-call q l b) (x .join .left-side) (built-then ds (right-made x) r)
+  left-ready e x = record {
+    at = x .join .left-at;
+    usable = x .usable;
+    numbers = x .numbers-left;
+    building = building-less (building-behind e x) (omega arith);
+  }
 
-  pub left-asks : {b : State} → b ≡ after (q .state) r → SomeReadyFor (left-call q l b)
-  left-asks e = let x = some-join (known .right .join) in record {
-    rule = x .left-side;
-    tail = built-then (known .right .join .kinded .some .tail) (made q (x .right-side)) r;
+  pub left-side-asks : {b : State} → b ≡ after (q .state) r → SomeRule (ReadyFor (left-call q l b))
+  left-side-asks e = let x = some-join (known .join) in record {
+    rule = x .join .left-side;
+    tail = built-then (known .join .kinded .some .tail) (right-made x) r;
     ready = left-ready e x;
   }
 
@@ -478,182 +274,27 @@ pub record BothAnswered (q : Call) (k : ℕ) (s : Side) (l : List ℕ) (right : 
 module _ {q : Call} {k : ℕ} {s : Side} {l : List ℕ} {right : Folded} {b : State} {m : List ℕ} {left : Folded}
     (known : BothAnswered q k s l right b m left) where
   sides-for : {a : Rule} {ds : List Node} (x : JoinFor q k a ds)
-      → Sides (words m) (eqb k 2) (q .state) ds (made q (x .right-side)) (made q (x .left-side)) right left
+      → Sides (words m) (eqb k 2) (q .state) ds (right-made x) (left-made x) right left
   sides-for {a} {ds} x =
-      let put = made q (x .right-side) in
-      let built = built-then ds put right in
-      let gives = known .answered (x .left-side) built (left-ready (known .first) (known .state) x) in
-      sides-of (words (q .out)) (words l) (words m) (eqb k 2) (q .state) ds put (made q (x .left-side)) right left
-      (x .ready .built) (right-gives (known .first) x) (known .unsettled)
-      (subst (λ (c : State). Gives (words m) c built (made q (x .left-side)) left) (known .state) gives)
+      let built = built-then ds (right-made x) right in
+      let gives = known .answered (x .join .left-side) built (left-ready (known .first) (known .state) x) in
+      sides-of (words (q .out)) (words l) (words m) (eqb k 2) (q .state) ds (right-made x) (left-made x) right left
+      (x .building .built) (right-gives (known .first) x) (known .unsettled)
+      (subst (λ (c : State). Gives (words m) c built (left-made x) left) (known .state) gives)
 
   pub joined-asks : SomeSides (words m) (eqb k 2) (q .state) right left
   joined-asks =
-      let J = known .first .right .join in
-      let x = some-join J in
-      let ds = J .kinded .some .tail in
-      let sides = some-sides J in
-      let lighter : (z : Rule) → WellFormed z → weight (made q z) ≤ weight z =
-      λ z w. changed-lighter (q .change) (q .sum) z (x .ready .usable) w in
-      some-sides-of (words m) (eqb k 2) (q .state) ds (made q (x .right-side)) (made q (x .left-side)) right left
-      (sides-for x)
-      (omega (
-        arith,
-        sides .small,
-        lighter (x .left-side) (sides .formed-left),
-        lighter (x .right-side) (sides .formed-right),
-      ))
-      (omega (arith, same-room (known .first) x, words-length m, words-length l, known .kept))
+      let node = known .first .join in
+      let x = some-join node in
+      some-sides-of (words m) (eqb k 2) (q .state) (node .kinded .some .tail) (right-made x) (left-made x) right left
+      (sides-for x) (omega (arith, x .building .small, lighter x .0, lighter x .1))
+      (omega (arith, building-behind (known .first) (known .state) x .room, same-words m l (known .kept)))
 
   pub joined-gives : (o : List ℕ) (r : Folded)
       → ((x y : Rule) (ds : List Node) → Sides (words m) (eqb k 2) (q .state) ds x y right left
       → Gives (words o) (q .state) ds (fold-join (junction (eqb k 2)) y x) r)
       → FoldsCore q o r
-  joined-gives o r promise a ds h =
-      let x = join-for (known .first .right .join) a ds h in
-      subst (λ (y : Rule). Gives (words o) (q .state) ds y r) (sym (made-join q k x))
-      (promise (made q (x .right-side)) (made q (x .left-side)) ds (sides-for x))
-
--- ---- a chain is found
-
-pub record Linked (q : Call) (links : Links) : Type 0 where
-  pub some : SomeReadyFor q
-  pub found : (es : List ℤ) (n p : ℕ) (a : Rule) → Stands es (words (q .bodies)) n p a → ChainOf most-words a links
-
-pub chain-asks : (q : Call) → SomeReadyFor q → SomeStands (words (q .bodies))
-chain-asks q some = let ready = some .ready in record {
-  entries = words (q .entries);
-  number = q .node;
-  place = q .place;
-  rule = some .rule;
-  stands = ready .stands;
-  few = ready .few;
-  formed = ready .formed;
-}
-
--- the call on what stands under it
-abbrev pub inner-call : Call → Links → Call
-inner-call q links = record {
-  entries = bytes-from (q .entries) (links .nodes * 4);
-  bodies = bytes-from (q .bodies) (links .words * 4);
-  node = q .node + links .nodes;
-  place = q .place + links .words;
-  change = q .change;
-  sum = q .sum;
-  out = q .out;
-  state = q .state;
-}
-
-module _ {q : Call} {links : Links} (node : Linked q links) where
-  chain-of : {a : Rule} {ds : List Node} → ReadyFor q a ds → ChainOf most-words a links
-  chain-of {a} h = node .found (words (q .entries)) (q .node) (q .place) a (h .stands)
-
-  within : {a : Rule} {ds : List Node} → ReadyFor q a ds
-      → (links .nodes < length (words (q .entries))) × (links .words < length (words (q .bodies)))
-  within {a} h =
-      let chain = chain-of h in
-      let (entries, bodies) = chain-inside (links .nodes) a (chain .chained) (h .stands) in
-      (entries, omega (arith, bodies, chain .wide))
-
-  pub nodes-there : links .nodes * 4 ≤ length (q .entries)
-  nodes-there = omega (arith, within (node .some .ready) .0, words-length (q .entries))
-
-  pub words-there : links .words * 4 ≤ length (q .bodies)
-  words-there = omega (arith, within (node .some .ready) .1, words-length (q .bodies))
-
-  pub inner-node : q .node + links .nodes ≤ most-words
-  inner-node = omega (arith, within (node .some .ready) .0, node .some .ready .few .few-nodes)
-
-  pub inner-place : q .place + links .words ≤ most-words
-  inner-place = omega (arith, within (node .some .ready) .1, node .some .ready .few .few-words)
-
-  pub inner-short : length (bytes-from (q .entries) (links .nodes * 4)) ≤ length (q .entries)
-  inner-short = omega (arith, bytes-length (q .entries) (links .nodes * 4))
-
-  -- it is as long as it goes: there are not as many nodes as the most
-  bare : {a : Rule} {ds : List Node} → ReadyFor q a ds → unary (below (links .nodes) a) ≡ false
-  bare {a} h = go (chain-of h .ends)
-    where
-      go : (links .nodes ≡ most-words) ⊎ (unary (below (links .nodes) a) ≡ false)
-          → unary (below (links .nodes) a) ≡ false
-      go (inl e) = absurd (omega (arith, e, within h .0, h .few .few-nodes))
-      go (inr e) = e
-
-  core-ready : {a : Rule} {ds : List Node} → ReadyFor q a ds → CoreFor (inner-call q links) (below (links .nodes) a) ds
-  core-ready {a} {ds} h =
-      let i = links .nodes in
-      let w = links .words in
-      let chain = chain-of h in
-      let (entries, bodies) = within h in
-      let same = over-below over-limit (becomes (q .change) (q .sum)) i a in
-      record {
-        ready = record {
-          stands = chain-part (q .entries) (q .bodies) i w a (chain .chained) (chain .wide) (h .stands);
-          few = few-part (q .entries) (q .bodies) i w (omega (arith, entries)) (omega (arith, bodies)) (h .few);
-          formed = below-formed i a (h .formed);
-          usable = h .usable;
-          numbers = unfold changed in subst (λ (v : Bool). T (not v)) same (h .numbers);
-          built = h .built;
-          small = omega (arith, h .small, chain-weight i a (chain .chained));
-          room = h .room;
-        };
-        bare = bare h;
-      }
-
-  pub core-asks : SomeCoreFor (inner-call q links)
-  core-asks = record {
-    rule = below (links .nodes) (node .some .rule);
-    tail = node .some .tail;
-    core = core-ready (node .some .ready);
-  }
-
--- ---- what stands under it is answered, and the bytes l are left
-
-pub record InnerAnswered (q : Call) (links : Links) (l : List ℕ) (inner : Folded) : Type 0 where
-  pub linked : Linked q links
-  pub answered : FoldsCore (inner-call q links) l inner
-
-module _ {q : Call} {links : Links} {l : List ℕ} {inner : Folded} (known : InnerAnswered q links l inner) where
-  wrapping : {a : Rule} {ds : List Node} → ReadyFor q a ds
-      → Wrapping (words (q .entries)) (words (q .bodies)) (q .node) (q .place) (links .nodes) (words l) (q .state) a
-      (made q (below (links .nodes) a)) ds inner
-  wrapping {a} {ds} h =
-      let i = links .nodes in
-      let chain = chain-of (known .linked) h in
-      let under = below i a in
-      record {
-        stands = h .stands;
-        few = h .few;
-        formed = h .formed;
-        chained = chain .chained;
-        gives = known .answered under ds (core-ready (known .linked) h);
-        small = omega (
-          arith,
-          h .small,
-          chain-weight i a (chain .chained),
-          changed-lighter (q .change) (q .sum) under (h .usable) (below-formed i a (h .formed)),
-        );
-      }
-
-  pub wrapped-asks : SomeWrapping (words (q .entries)) (words (q .bodies)) (q .node) (q .place) (links .nodes) (words l)
-      (q .state) inner
-  wrapped-asks =
-      let some = known .linked .some in
-      record {
-        rule = some .rule;
-        under = made q (below (links .nodes) (some .rule));
-        tail = some .tail;
-        wrapping = wrapping (some .ready);
-      }
-
-  pub wrapped-gives : (o : List ℕ) (r : Folded)
-      → ((a f : Rule) (ds : List Node)
-      → Wrapping (words (q .entries)) (words (q .bodies)) (q .node) (q .place) (links .nodes) (words l) (q .state) a f
-      ds inner → Gives (words o) (q .state) ds (wrap (links .nodes) a f) r)
-      → Folds q o r
-  unfolding changed
-  wrapped-gives o r promise a ds h =
-      let chained = chain-of (known .linked) h .chained in
-      subst (λ (y : Rule). Gives (words o) (q .state) ds y r)
-      (sym (wrap-fold (becomes (q .change) (q .sum)) (links .nodes) a chained))
-      (promise a (made q (below (links .nodes) a)) ds (wrapping h))
+  joined-gives o r promise a ds core =
+      let x = join-for (known .first .join) core in
+      subst (λ (y : Rule). Gives (words o) (q .state) ds y r) (sym (made-join x))
+      (promise (right-made x) (left-made x) ds (sides-for x))

@@ -1,4 +1,5 @@
--- What the walk that folds asks at a leaf, and what it is given there: a literal, changed, is its truth value or is put.
+-- What the walk that folds asks at a leaf, and what it is given there: a literal, changed, is its truth value or is
+-- put.
 -- Assumes nothing.
 use mathlib.Core.Path.{_≡_, refl, sym, ap, _∙_, subst}
 use mathlib.Core.Bool.{Bool, true, false}
@@ -18,7 +19,7 @@ use Rattle.builder.specs.declared.push.State.{State}
 use Rattle.folding.specs.Answers.{Gives}
 use Rattle.folding.specs.declared.answers.Folded.{Folded}
 use Rattle.folding.specs.declared.answers.Folded.the-variants.{Known}
-use Rattle.literals.specs.Literal.{Marked, LiteralAt, SomeLiteral}
+use Rattle.literals.specs.Literal.{Marked, LiteralAt}
 use Rattle.literals.specs.Changes.{becomes, changed-sum, changed-test, divisor-or-none, Settles}
 use Rattle.literals.specs.declared.change.Change.{Change}
 use Rattle.literals.specs.declared.change.Change.the-variants.{Same, Scaled, Far, Full}
@@ -26,7 +27,7 @@ use Rattle.literals.specs.declared.change.Settled.{Settled}
 use Rattle.literals.specs.declared.change.Settled.the-variants.{Yes, No}
 use Rattle.literals.proofs.Literals.{kind-read}
 use Rattle.literals.proofs.ChangeLaws.{changed-seven, kept, kept-within}
-use Rattle.walks.specs.Literals.{Puttable, SomeKept, SomeLiteralReady}
+use Rattle.walks.specs.Literals.{Puttable, SomeChangeable, SomeKept}
 
 -- ---- changed
 
@@ -58,30 +59,27 @@ marked {t = t} {s = s} c l p d = record {
 }
 
 module _ {ws : List ℤ} {c : Change} {u : Sum} {b : State} where
-  pub some-literal-kept : SomeKept ws c u b → SomeLiteral ws
-  some-literal-kept h = record { node = h .node; test = h .test; sum = h .sum; at = h .at }
-
   pub puttable : {kind k : ℕ} {s : Sum} (h : SomeKept ws c u b) → getD ws 0 (pos 0) ≡ signed kind
-      → k ≡ divisor-or-none (changed-test c (h .sum) (h .test)) → s ≡ changed-sum c u (h .sum) → Puttable kind k s b
-  puttable h p d e = record {
-    some = record {
-      test = changed-test c (h .sum) (h .test);
-      marked = marked c (h .at) p d;
-      small = divisor-within (changed-test c (h .sum) (h .test)) (h .small);
-    };
-    seven = ap length e ∙ changed-seven u (h .sum) (h .usable .seven) (h .at .long) c (h .usable .fair);
-    countable = h .countable;
-  }
+      → let l = h .some in
+      k ≡ divisor-or-none (changed-test c (l .sum) (l .test)) → s ≡ changed-sum c u (l .sum) → Puttable kind k s b
+  puttable h p d e =
+      let l = h .some in
+      record {
+        some = record {
+          test = changed-test c (l .sum) (l .test);
+          marked = marked c (l .at) p d;
+          small = divisor-within (changed-test c (l .sum) (l .test)) (h .small);
+        };
+        seven = ap length e ∙ changed-seven u (l .sum) (h .usable .seven) (l .at .long) c (h .usable .fair);
+        countable = h .countable;
+      }
 
-  pub some-kept : {r : Settled} (h : SomeLiteralReady ws c u b) → Settles c (h .test) (h .sum) r → r ≡ No
+  pub some-kept : {r : Settled} (h : SomeChangeable ws c u b) → Settles c (h .some .test) (h .some .sum) r → r ≡ No
       → SomeKept ws c u b
   some-kept h e none =
-      let limits = kept-within c (h .test) (h .sum) e u none (h .numbers) in
+      let limits = kept-within c (h .some .test) (h .some .sum) e u none (h .numbers) in
       record {
-        node = h .node;
-        test = h .test;
-        sum = h .sum;
-        at = h .at;
+        some = h .some;
         usable = h .usable;
         within = limits .0;
         small = limits .1;

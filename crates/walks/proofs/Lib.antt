@@ -1,11 +1,16 @@
 pub mod LeafLaws
 pub mod ChainLaws
+pub mod PartLaws
 pub mod DownLaws
+pub mod LinkLaws
 pub mod UpLaws
+pub mod ChangedLaws
 pub mod FoldLaws
+pub mod FoldChainLaws
 pub mod PutLaws
 pub mod SumLaws
 pub mod PairLaws
+pub mod ZeroLaws
 pub mod LiteralLaws
 pub mod NormalLaws
 pub mod NotsLaws

@@ -14,151 +14,21 @@ use mir.Syntax.{w32}
 use mir.Val.{SFits, toZ, ofZ}
 use mir.Facts.{toZ-ofZ}
 use Rattle.rules.specs.Sum.{Sum, factor, negate, one-minus}
-use Rattle.rules.specs.Rule.{Test, positive, divisible, is-zero, Rule, Literal, Join, whether}
+use Rattle.rules.specs.Rule.{Test, positive, divisible, is-zero, Rule, Literal, whether}
 use Rattle.rules.specs.Table.{Node}
-use Rattle.rules.specs.Fold.{fold, fold-join}
 use Rattle.rules.specs.Steps.{x-not-negative, normal-literal}
 use Rattle.rules.specs.Calls.{signed}
-use Rattle.rules.proofs.Weights.{fold-lighter}
-use Rattle.rules.proofs.Sizes.{weight}
 use Rattle.tables.proofs.Inversion.{test-kind}
-use Rattle.builder.specs.Built.{Built, Countable, junction, compared}
+use Rattle.builder.specs.Built.{Countable}
 use Rattle.builder.specs.declared.push.State.{State}
-use Rattle.builder.proofs.BuiltLaws.{built-countable}
-use Rattle.folding.specs.Answers.{Gives, after, built-then}
-use Rattle.folding.specs.declared.answers.Folded.{Folded}
-use Rattle.folding.proofs.AnswerLaws.{total-then}
+use Rattle.builder.proofs.BuiltLaws.{building-countable}
 use Rattle.literals.specs.Literal.{Fair, start-of, Marked}
 use Rattle.literals.proofs.Literals.{literal-sum, literal-marked, literal-long}
 use Rattle.walks.specs.Sums.{turned, raised, SumAt, SomeSum, TestAt, SomeTestAt}
-use Rattle.walks.specs.Pairs.{Pair, SomePair}
 use Rattle.walks.specs.Normal.{Normalled, LiteralReady, SomeLiteralReady, ZeroReady, SomeZeroReady}
 use Rattle.walks.specs.declared.normal.Normal.{Normal}
-use Rattle.walks.specs.declared.normal.Normal.the-variants.{OverLimit, Made}
-use Rattle.walks.proofs.PutLaws.{positive-kind, zero-kind, divisor-kind}
-use Rattle.walks.proofs.SumLaws.{turned-long, raised-long}
-use Rattle.walks.proofs.PairLaws.{right-over, left-over, BothMade, both-made, join-made, made-built}
-
--- what `test` answers
-abbrev pub Tested : List ℤ → ℕ → ℕ → Bool → Bool → List ℤ → List ℤ → State → Normal → Type 0
-Tested bs kind k minus one ws vs b f = (t : Test) (s : Sum) (ds : List Node) → TestAt bs kind k t s → Built ws b ds
-    → Normalled vs b ds (Literal t (raised one (turned minus s))) f
-
--- kind 5 with any divisor
-positive-at : {bs : List ℤ} {s : Sum} → SumAt bs 1 s → TestAt bs 5 1 positive s
-positive-at at = record { marked = record { same-kind = refl; same-divisor = tt }; fair = tt; sum = at }
-
--- ---- T = 0
-
--- the right side, which is put first, and the left side
-abbrev zero-right : Bool → Sum → Rule
-zero-right plainly s = Literal positive (raised plainly (turned false s))
-
-abbrev zero-left : Bool → Sum → Rule
-zero-left plainly s = Literal positive (raised plainly (turned true s))
-
-zero-is : (plainly : Bool) (x : ℕ) (s : Sum)
-    → Join (junction plainly) (zero-left plainly s) (zero-right plainly s) ≡ normal-literal plainly x is-zero s
-unfolding junction normal-literal raised turned one-minus
-zero-is true x s = refl
-zero-is false x s = refl
-
-module _ {bs ws : List ℤ} {b : State} (some : SomeZeroReady bs ws b) where
-  pub zero-asks : SomeTestAt bs 5 1 × Countable b 9
-  zero-asks =
-      let ready = some .ready in (
-        record { test = positive; sum = some .sum; there = positive-at (ready .at) },
-        built-countable ws b (some .tail) 9 (ready .built) (omega (arith, ready .small)),
-      )
-
--- a side has eight words at most
-side-words : (one minus : Bool) {bs : List ℤ} {s : Sum} → SumAt bs 1 s
-    → weight (fold (Literal positive (raised one (turned minus s)))) ≤ 8
-unfolding weight
-side-words one minus {bs} {s} at =
-    let u = raised one (turned minus s) in
-    let long : length u ≡ 7 = raised-long one (turned minus s) (turned-long minus s ∙ at .long) in
-    omega (arith, fold-lighter (Literal positive u), long)
-
-module _ (bs ws us : List ℤ) (b : State) (plainly : Bool) (f : Normal)
-    (first : Tested bs 5 1 false plainly ws us b f) where
-  right-answer : (s : Sum) (ds : List Node) → ZeroReady bs ws b s ds → Normalled us b ds (zero-right plainly s) f
-  right-answer s ds ready = first positive s ds (positive-at (ready .at)) (ready .built)
-
-  pub zero-right-over : f ≡ OverLimit → (x : ℕ) (s : Sum) (ds : List Node) → ZeroReady bs ws b s ds
-      → Normalled us b ds (normal-literal plainly x is-zero s) f
-  zero-right-over e x s ds ready =
-      subst (λ (r : Rule). Normalled us b ds r f) (zero-is plainly x s)
-      (right-over (junction plainly) (zero-right plainly s) (zero-left plainly s) us us b ds f e
-      (right-answer s ds ready))
-
-  -- the right side is put, in state c
-  module _ (r : Folded) (made : f ≡ Made r) (c : State) (then : c ≡ after b r) where
-    right-built : (s : Sum) (ds : List Node) → ZeroReady bs ws b s ds
-        → Built us c (built-then ds (fold (zero-right plainly s)) r)
-    right-built s ds ready =
-        subst (λ (d : State). Built us d (built-then ds (fold (zero-right plainly s)) r)) (sym then)
-        (made-built us b ds (zero-right plainly s) f r made (right-answer s ds ready))
-
-    pub zero-asks-again : SomeZeroReady bs ws b → SomeTestAt bs 5 1 × Countable c 9
-    zero-asks-again some =
-        let s = some .sum in
-        let ds = some .tail in
-        let ready = some .ready in
-        let x = fold (zero-right plainly s) in (
-          zero-asks some .0,
-          built-countable us c (built-then ds x r) 9 (right-built s ds ready)
-              (omega (arith, ready .small, total-then ds x r, side-words plainly false (ready .at))),
-        )
-
-    module _ (vs : List ℤ) (g : Normal) (second : Tested bs 5 1 true plainly us vs c g) where
-      left-answer : (s : Sum) (ds : List Node) → ZeroReady bs ws b s ds
-          → Normalled vs (after b r) (built-then ds (fold (zero-right plainly s)) r) (zero-left plainly s) g
-      left-answer s ds ready =
-          let es = built-then ds (fold (zero-right plainly s)) r in
-          subst (λ (d : State). Normalled vs d es (zero-left plainly s) g) then
-          (second positive s es (positive-at (ready .at)) (right-built s ds ready))
-
-      pub zero-left-over : g ≡ OverLimit → (x : ℕ) (s : Sum) (ds : List Node) → ZeroReady bs ws b s ds
-          → Normalled vs b ds (normal-literal plainly x is-zero s) g
-      zero-left-over e x s ds ready =
-          subst (λ (y : Rule). Normalled vs b ds y g) (zero-is plainly x s)
-          (left-over (junction plainly) (zero-right plainly s) (zero-left plainly s) vs vs b _ ds _ g e
-          (left-answer s ds ready))
-
-      both-sides : (l : Folded) → g ≡ Made l → (s : Sum) (ds : List Node) → ZeroReady bs ws b s ds
-          → BothMade (junction plainly) (zero-right plainly s) (zero-left plainly s) vs b ds r l
-      both-sides l e s ds ready =
-          both-made (junction plainly) (zero-right plainly s) (zero-left plainly s) ws us vs b ds f g r l (ready .built)
-          made (right-answer s ds ready) e (left-answer s ds ready)
-
-      pub zero-both-asks : (l : Folded) → g ≡ Made l → SomeZeroReady bs ws b → length vs ≡ length ws → SomePair vs b r l
-      zero-both-asks l e some same =
-          let s = some .sum in
-          let ready = some .ready in
-          record {
-            x = fold (zero-right plainly s);
-            y = fold (zero-left plainly s);
-            tail = some .tail;
-            pair = both-sides l e s (some .tail) ready .pair;
-            small = omega (
-              arith,
-              ready .small,
-              side-words plainly false (ready .at),
-              side-words plainly true (ready .at),
-            );
-            room = omega (arith, ready .room, same);
-          }
-
-      pub zero-made : (l : Folded) → g ≡ Made l → (os : List ℤ) (h : Folded)
-          → ((x y : Rule) (ds : List Node) → Pair vs b ds x y r l → Gives os b ds (fold-join (junction plainly) y x) h)
-          → (x : ℕ) (s : Sum) (ds : List Node) → ZeroReady bs ws b s ds
-          → Normalled os b ds (normal-literal plainly x is-zero s) (Made h)
-      zero-made l e os h joined x s ds ready =
-          let sides = both-sides l e s ds ready in
-          subst (λ (y : Rule). Normalled os b ds y (Made h)) (zero-is plainly x s)
-          (join-made (junction plainly) (zero-right plainly s) (zero-left plainly s) vs os b ds r l h sides
-          (joined _ _ ds (sides .pair)))
+use Rattle.walks.proofs.PutLaws.{positive-test, zero-test, divisor-test}
+use Rattle.walks.proofs.ZeroLaws.{Tested, positive-at}
 
 -- ---- kinds 6 and 7
 
@@ -202,18 +72,6 @@ sum-of {bs} {t = t} ready =
       small = ready .limited;
     }
 
-module _ {kind k : ℕ} where
-  positive-test : kind ≡ 5 → (t : Test) → Marked kind k t → t ≡ positive
-  unfolding compared
-  positive-test e t m = sym (positive-kind e t m)
-
-  zero-test : kind ≡ 10 → (t : Test) → Marked kind k t → t ≡ is-zero
-  unfolding compared
-  zero-test e t m = sym (zero-kind e t m)
-
-  divisor-test : ¬ (kind ≡ 5) → ¬ (kind ≡ 10) → (t : Test) → Marked kind k t → t ≡ divisible (eqb kind 6) k
-  divisor-test n5 n10 t m = sym (divisor-kind n5 n10 t m)
-
 positive-is : (plainly : Bool) (x : ℕ) (s : Sum)
     → Literal positive (raised (not plainly) (turned (not plainly) s)) ≡ normal-literal plainly x positive s
 unfolding normal-literal raised turned one-minus
@@ -234,7 +92,7 @@ module _ {bs ws : List ℤ} {x kind k : ℕ} {b : State} (read : LiteralRead bs 
 
   some-countable : SomeLiteralReady bs x ws b → Countable b 9
   some-countable some =
-      built-countable ws b (some .tail) 9 (some .ready .built) (omega (arith, some .ready .small))
+      building-countable 9 (some .ready .building) (omega arith)
 
   -- 0 < T
   positive-there : kind ≡ 5 → {n : ℕ} {t : Test} {s : Sum} {ds : List Node} → LiteralReady bs n x ws b t s ds
@@ -254,16 +112,14 @@ module _ {bs ws : List ℤ} {x kind k : ℕ} {b : State} (read : LiteralRead bs 
       subst (λ (r : Rule). Normalled vs b ds r f)
       (positive-is plainly x s
       ∙ ap (λ (u : Test). normal-literal plainly x u s) (sym (positive-test e t (marks ready))))
-      (tested positive s ds (positive-there e ready) (ready .built))
+      (tested positive s ds (positive-there e ready) (ready .building .built))
 
   -- T = 0
   zero-ready : kind ≡ 10 → {n : ℕ} {t : Test} {s : Sum} {ds : List Node} → LiteralReady bs n x ws b t s ds
       → ZeroReady bs ws b s ds
   zero-ready e {t = t} {s = s} ready = record {
     at = subst (λ (u : Test). SumAt bs (start-of u) s) (zero-test e t (marks ready)) (sum-of ready);
-    built = ready .built;
-    small = ready .small;
-    room = ready .room;
+    building = ready .building;
   }
 
   pub some-zero : kind ≡ 10 → SomeLiteralReady bs x ws b → SomeZeroReady bs ws b
@@ -329,4 +185,4 @@ module _ {bs ws : List ℤ} {x kind k : ℕ} {b : State} (read : LiteralRead bs 
           subst (λ (r : Rule). Normalled vs b ds r f)
           (ap (λ (a : ℤ). Literal u (raised false (turned (ltZ a (pos 0)) s))) sign
           ∙ divisor-is plainly x c k s ∙ ap (λ (v : Test). normal-literal plainly x v s) (sym is))
-          (tested u s ds (divided-there ready) (ready .built))
+          (tested u s ds (divided-there ready) (ready .building .built))

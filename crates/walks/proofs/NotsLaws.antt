@@ -3,31 +3,28 @@
 -- Assumes nothing.
 use mathlib.Core.Path.{_≡_, refl, sym, _∙_, subst}
 use mathlib.Core.Bool.{Bool, true, false, not}
-use mathlib.Core.Logic.{_⊎_, inl, inr}
 use mathlib.Core.List.{List}
-use Prim.Native.Nat.{ℕ, zero, suc, _+_, _*_, _%_, _<_, _≤_}
+use Prim.Native.Nat.{ℕ, zero, suc, _*_, _%_, _<_}
 use native.Mathlib.Omega.{arith}
 use lib.Dec.{T}
-use lib.IntN.{ℤ}
 use lib.ListN.{length}
 use Rattle.rules.specs.Rule.{Rule, Constant, Join, Not, Literal, Bind}
-use Rattle.rules.specs.Table.{Node, most-words}
+use Rattle.rules.specs.Table.{Node}
 use Rattle.rules.specs.Steps.{normal}
 use Rattle.rules.specs.Chosen.{quantifiers}
 use Rattle.rules.specs.Laws.{QuantifierFree}
 use Rattle.rules.specs.Calls.{words}
-use Rattle.tables.specs.Standing.{Stands}
-use Rattle.tables.proofs.WordLaws.{words-length}
-use Rattle.tables.proofs.WalkLaws.{part}
-use Rattle.tables.proofs.Parts.{part-shorter}
-use Rattle.builder.specs.declared.push.State.{State}
 use Rattle.tables.proofs.Parts.{bytes-from}
-use Rattle.walks.specs.Chain.{unary, Chained, below, ChainOf, SomeStands}
-use Rattle.walks.specs.Normal.{NormalReady, SomeNormalReady, Normalled}
+use Rattle.builder.proofs.BuiltLaws.{building-less}
+use Rattle.walks.specs.Chain.{unary, Chained, no-link, a-not, a-bind, below}
+use Rattle.walks.specs.Walk.{SomeRule}
+use Rattle.walks.specs.Normal.{Normalled}
 use Rattle.walks.specs.declared.chain.Links.{Links}
 use Rattle.walks.specs.declared.normal.Normal.{Normal}
-use Rattle.walks.proofs.ChainLaws.{chain-weight, below-formed, chain-part, chain-few, chain-inside}
-use Rattle.walks.proofs.NormalLaws.{Answers, Kinded, not-there}
+use Rattle.walks.proofs.ChainLaws.{chain-weight}
+use Rattle.walks.proofs.PartLaws.{inner-part, not-in, FindsChain}
+use Rattle.walks.proofs.PartLaws.{ChainIn, chain-in, inner-shorter, bare-below, inner-here}
+use Rattle.walks.proofs.NormalLaws.{Call, ReadyFor, Answers, Kinded}
 
 -- ---- what is under the nots, and how
 
@@ -47,13 +44,10 @@ after-nots (suc k) plainly = after-nots k (not plainly)
 
 normal-below : (k : ℕ) (plainly : Bool) (x : ℕ) (a : Rule) → QuantifierFree a → Chained k a
     → normal plainly x a ≡ normal (after-nots k plainly) x (below k a)
-unfolding Chained below normal quantifiers after-nots
-normal-below zero plainly x a free c = refl
-normal-below (suc k) plainly x (Constant b) free c = absurd c
-normal-below (suc k) plainly x (Join j a b) free c = absurd c
-normal-below (suc k) plainly x (Not a) free c = normal-below k (not plainly) x a free c
-normal-below (suc k) plainly x (Literal t s) free c = absurd c
-normal-below (suc k) plainly x (Bind q v a) free c = absurd (omega (arith, free))
+unfolding below normal quantifiers after-nots
+normal-below k plainly x r free (no-link a) = refl
+normal-below k plainly x r free (a-not {k = i} a c) = normal-below i (not plainly) x a free c
+normal-below k plainly x r free (a-bind q v a c) = absurd (omega (arith, free))
 
 -- "Two nots cancel."
 two-nots : (plainly : Bool) → not (not plainly) ≡ plainly
@@ -70,87 +64,57 @@ odd-or-even (suc k) plainly =
       λ even. if-odd (omega (arith, even)) ∙ two-nots plainly,
     )
 
--- ---- node n at place p is a not, and the run that it starts is found
+-- ---- the kind is a not's, and the run that it starts is found
 
-pub record NotsFound (le lb : List ℕ) (n p x : ℕ) (ws : List ℤ) (b : State) (k : ℕ) (links : Links) : Type 0 where
-  pub kinded : Kinded le lb n p x ws b k
+pub record NotsFound (q : Call) (k : ℕ) (links : Links) : Type 0 where
+  pub kinded : Kinded q k
   pub is-not : k ≡ 4
-  pub found : (es : List ℤ) (m q : ℕ) (a : Rule) → Stands es (words lb) m q a → ChainOf most-words a links
+  pub found : FindsChain (q .part) links
 
-pub chain-asks : {le lb : List ℕ} {n p x k : ℕ} {ws : List ℤ} {b : State} → Kinded le lb n p x ws b k
-    → SomeStands (words lb)
-chain-asks {le} {lb} {n} {p} node = let ready = node .some .ready in record {
-  entries = words le;
-  number = n;
-  place = p;
-  rule = node .some .rule;
-  stands = ready .stands;
-  few = ready .few;
-  formed = ready .formed;
+-- the call on what stands under the run
+abbrev pub inner-call : Call → Links → Call
+inner-call q links = record {
+  part = inner-part (q .part) links;
+  setting = q .setting;
+  out = q .out;
+  state = q .state;
 }
 
-module _ {le lb : List ℕ} {n p x k : ℕ} {ws : List ℤ} {b : State} {links : Links}
-    (nots : NotsFound le lb n p x ws b k links) where
-  run-of : (a : Rule) (ds : List Node) → NormalReady (words le) (words lb) n p x ws b a ds → ChainOf most-words a links
-  run-of a ds ready = nots .found (words le) n p a (ready .stands)
+module _ {q : Call} {k : ℕ} {links : Links} (nots : NotsFound q k links) where
+  run-for : {a : Rule} {ds : List Node} → ReadyFor q a ds → ChainIn (q .part) links a
+  run-for {a} ready = chain-in (q .part) (nots .found) a (ready .at)
 
-  -- there are entries and words behind those of the run
-  within : (links .nodes < length (words le)) × (links .words < length (words lb))
-  within =
-      let some = nots .kinded .some in
-      let run = run-of (some .rule) (some .tail) (some .ready) in
-      let (entries, bodies) = chain-inside (links .nodes) (some .rule) (run .chained) (some .ready .stands) in
-      (entries, omega (arith, bodies, run .wide))
+  -- the run of the call, of which the not itself is one
+  pub run-there : ChainIn (q .part) links (nots .kinded .some .rule)
+  run-there = run-for (nots .kinded .some .ready)
 
-  pub run-entries : links .nodes * 4 ≤ length le
-  run-entries = omega (arith, within .0, words-length le)
-
-  pub run-words : links .words * 4 ≤ length lb
-  run-words = omega (arith, within .1, words-length lb)
-
-  pub inner-node : n + links .nodes ≤ most-words
-  inner-node = omega (arith, within .0, nots .kinded .some .ready .few .few-nodes)
-
-  pub inner-place : p + links .words ≤ most-words
-  inner-place = omega (arith, within .1, nots .kinded .some .ready .few .few-words)
-
-  -- the not itself is one of them
   some-not : 0 < links .nodes
   unfolding below
   some-not =
-      let some = nots .kinded .some in
-      let run = run-of (some .rule) (some .tail) (some .ready) in
-      go (links .nodes) (some .rule)
-      (not-there (nots .kinded) (nots .is-not) (some .rule) (some .tail) (some .ready)) (run .ends)
+      let there = not-in (q .part) k (nots .kinded .first) (nots .is-not) (nots .kinded .some .rule) (run-there .at) in
+      go (links .nodes) (nots .kinded .some .rule) there (bare-below run-there)
     where
-      go : (i : ℕ) (a : Rule) → unary a ≡ true → (i ≡ most-words) ⊎ (unary (below i a) ≡ false) → 0 < i
-      go zero a there (inl e) = absurd (omega (arith, e))
-      go zero a there (inr e) = absurd (subst T (sym there ∙ e) tt)
-      go (suc i) a there ends = omega arith
+      go : (i : ℕ) (a : Rule) → unary a ≡ true → unary (below i a) ≡ false → 0 < i
+      go zero a there bare = absurd (subst T (sym there ∙ bare) tt)
+      go (suc i) a there bare = omega arith
 
-  pub run-shorter : length (bytes-from le (links .nodes * 4)) < length le
-  run-shorter = part-shorter le (links .nodes) some-not (omega (arith, within .0))
+  pub run-shorter : length (bytes-from (q .part .entries) (links .nodes * 4)) < length (q .part .entries)
+  run-shorter = inner-shorter run-there some-not
 
   -- what stands under the run is ready as the rule is
-  inner-ready : (a : Rule) (ds : List Node) → NormalReady (words le) (words lb) n p x ws b a ds
-      → NormalReady (part le (links .nodes)) (part lb (links .words)) (n + links .nodes) (p + links .words) x ws b
-      (below (links .nodes) a) ds
+  inner-ready : (a : Rule) (ds : List Node) → ReadyFor q a ds
+      → ReadyFor (inner-call q links) (below (links .nodes) a) ds
   inner-ready a ds ready =
+      let x = run-for ready in
       let i = links .nodes in
-      let run = run-of a ds ready in
       record {
-        stands = chain-part le lb i (links .words) a (run .chained) (run .wide) (ready .stands);
-        few = chain-few le lb i (links .words) a (run .chained) (run .wide) (ready .stands) (ready .few);
-        formed = below-formed i a (ready .formed);
+        at = inner-here x;
         free = below-free i a (ready .free);
         setting = ready .setting;
-        built = ready .built;
-        small = omega (arith, ready .small, chain-weight i a (run .chained));
-        room = ready .room;
+        building = building-less (ready .building) (omega (arith, chain-weight i a (x .chain .chained)));
       }
 
-  pub inner-asks : SomeNormalReady (part le (links .nodes)) (part lb (links .words)) (n + links .nodes)
-      (p + links .words) x ws b
+  pub inner-asks : SomeRule (ReadyFor (inner-call q links))
   inner-asks =
       let some = nots .kinded .some in
       record {
@@ -160,20 +124,20 @@ module _ {le lb : List ℕ} {n p x k : ℕ} {ws : List ℤ} {b : State} {links :
       }
 
   -- its answer is the rule's own
-  module _ (plainly : Bool) (vs : List ℤ) (f : Normal) where
-    abbrev Inner : Bool → Type 0
-    Inner q = Answers q (part le (links .nodes)) (part lb (links .words)) (n + links .nodes) (p + links .words) x ws vs
-        b f
-
-    inner-made : Inner (after-nots (links .nodes) plainly) → Answers plainly (words le) (words lb) n p x ws vs b f
+  module _ (plainly : Bool) (l : List ℕ) (f : Normal) where
+    inner-made : Answers (inner-call q links) (after-nots (links .nodes) plainly) l f → Answers q plainly l f
     inner-made answer a ds ready =
-        let run = run-of a ds ready in
-        subst (λ (y : Rule). Normalled vs b ds y f)
-        (sym (normal-below (links .nodes) plainly x a (ready .free) (run .chained)))
+        let chained = run-for ready .chain .chained in
+        subst (λ (y : Rule). Normalled (words l) (q .state) ds y f)
+        (sym (normal-below (links .nodes) plainly (q .setting) a (ready .free) chained))
         (answer (below (links .nodes) a) ds (inner-ready a ds ready))
 
-    pub odd-made : links .nodes % 2 ≡ 1 → Inner (not plainly) → Answers plainly (words le) (words lb) n p x ws vs b f
-    odd-made odd answer = inner-made (subst Inner (sym (odd-or-even (links .nodes) plainly .0 odd)) answer)
+    pub odd-made : links .nodes % 2 ≡ 1 → Answers (inner-call q links) (not plainly) l f → Answers q plainly l f
+    odd-made odd answer =
+        let turns = odd-or-even (links .nodes) plainly .0 odd in
+        inner-made (subst (λ (p : Bool). Answers (inner-call q links) p l f) (sym turns) answer)
 
-    pub even-made : ¬ (links .nodes % 2 ≡ 1) → Inner plainly → Answers plainly (words le) (words lb) n p x ws vs b f
-    even-made even answer = inner-made (subst Inner (sym (odd-or-even (links .nodes) plainly .1 even)) answer)
+    pub even-made : ¬ (links .nodes % 2 ≡ 1) → Answers (inner-call q links) plainly l f → Answers q plainly l f
+    even-made even answer =
+        let stays = odd-or-even (links .nodes) plainly .1 even in
+        inner-made (subst (λ (p : Bool). Answers (inner-call q links) p l f) (sym stays) answer)

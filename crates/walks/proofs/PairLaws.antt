@@ -3,34 +3,26 @@
 use mathlib.Core.Path.{_≡_, sym, _∙_, subst}
 use mathlib.Core.Bool.{Bool, true, false, not, _||_}
 use mathlib.Core.List.{List}
-use Prim.Native.Nat.{ℕ}
-use native.Mathlib.Omega.{arith}
 use lib.Dec.{T}
 use lib.IntN.{ℤ}
-use lib.ListN.{length}
 use Rattle.rules.specs.Rule.{Junction, Rule, Join}
 use Rattle.rules.specs.Table.{Node, nodes}
 use Rattle.rules.specs.Fold.{fold, fold-join}
 use Rattle.rules.specs.Literals.{some-literal}
 use Rattle.rules.specs.Eliminate.{over-limit}
-use Rattle.rules.specs.Calls.{words}
-use Rattle.tables.proofs.WordLaws.{words-length}
 use Rattle.builder.specs.Built.{Built, junction}
 use Rattle.builder.specs.declared.push.State.{State}
 use Rattle.builder.proofs.BuiltLaws.{built-back}
 use Rattle.folding.specs.Answers.{Gives, Sides, SomeSides, after, built-then, settled}
 use Rattle.folding.specs.declared.answers.Folded.{Folded}
 use Rattle.folding.specs.declared.answers.Folded.the-variants.{Known, Pushed}
-use Rattle.folding.proofs.AnswerLaws.{built-of, settled-join, sides-of, some-sides-of}
+use Rattle.folding.proofs.AnswerLaws.{settled-join, sides-of, some-sides-of}
 use Rattle.walks.specs.Pairs.{Pair, SomePair}
 use Rattle.walks.specs.Normal.{Normalled}
 use Rattle.walks.specs.declared.normal.Normal.{Normal}
 use Rattle.walks.specs.declared.normal.Normal.the-variants.{OverLimit, Made}
 
 -- the buffer keeps its length
-pub same-words : (l m : List ℕ) → length l ≡ length m → length (words l) ≡ length (words m)
-same-words l m e = omega (arith, words-length l, words-length m, e)
-
 -- ---- what was there before an answer is there after it
 
 pub built-before : (us ws : List ℤ) (b : State) (ds : List Node) (r : Rule) (f : Folded) → Built us b ds
@@ -82,24 +74,23 @@ module _ (ws : List ℤ) (and : Bool) (b : State) (right left : Folded) where
 
 module _ (j : Junction) (x y : Rule) where
   -- a number passes the limit
-  pub right-over : (us vs : List ℤ) (b : State) (ds : List Node) (f : Normal) → f ≡ OverLimit → Normalled us b ds x f
-      → Normalled vs b ds (Join j y x) f
+  pub right-over : (ws : List ℤ) (b : State) (ds : List Node) (f : Normal) → f ≡ OverLimit → Normalled ws b ds x f
+      → Normalled ws b ds (Join j y x) f
   unfolding Normalled some-literal
-  right-over us vs b ds f e h =
-      subst (Normalled vs b ds (Join j y x)) (sym e)
-      (by (some-literal over-limit y) (some-literal over-limit x) (subst (Normalled us b ds x) e h))
+  right-over ws b ds f e answer =
+      subst (Normalled ws b ds (Join j y x)) (sym e)
+      (by (some-literal over-limit y) (some-literal over-limit x) (subst (Normalled ws b ds x) e answer))
     where
       by : (p q : Bool) → T q → T (p || q)
       by true q t = tt
       by false q t = t
 
-  pub left-over : (us vs : List ℤ) (b c : State) (ds es : List Node) (f : Normal) → f ≡ OverLimit
-      → Normalled us c es y f
-      → Normalled vs b ds (Join j y x) f
+  pub left-over : (ws : List ℤ) (b c : State) (ds es : List Node) (f : Normal) → f ≡ OverLimit → Normalled ws c es y f
+      → Normalled ws b ds (Join j y x) f
   unfolding Normalled some-literal
-  left-over us vs b c ds es f e h =
-      subst (Normalled vs b ds (Join j y x)) (sym e)
-      (by (some-literal over-limit y) (some-literal over-limit x) (subst (Normalled us c es y) e h))
+  left-over ws b c ds es f e answer =
+      subst (Normalled ws b ds (Join j y x)) (sym e)
+      (by (some-literal over-limit y) (some-literal over-limit x) (subst (Normalled ws c es y) e answer))
     where
       by : (p q : Bool) → T p → T (p || q)
       by true q t = tt
@@ -134,8 +125,9 @@ module _ (j : Junction) (x y : Rule) where
       neither true q s t = absurd s
       neither false q s t = t
 
--- what is built after an answer of normal form
-pub made-built : (ws : List ℤ) (b : State) (ds : List Node) (x : Rule) (f : Normal) (r : Folded) → f ≡ Made r
-    → Normalled ws b ds x f → Built ws (after b r) (built-then ds (fold x) r)
+-- ---- an answer of normal form that is put
+
+pub made-gives : (ws : List ℤ) (b : State) (ds : List Node) (x : Rule) (f : Normal) (r : Folded) → f ≡ Made r
+    → Normalled ws b ds x f → Gives ws b ds (fold x) r
 unfolding Normalled
-made-built ws b ds x f r e h = built-of ws b ds (fold x) r (subst (Normalled ws b ds x) e h .1)
+made-gives ws b ds x f r e h = subst (Normalled ws b ds x) e h .1

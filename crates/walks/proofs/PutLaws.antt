@@ -23,7 +23,7 @@ use Rattle.rules.specs.Table.{Node, literal-node, nodes, is-divisor}
 use Rattle.rules.specs.Fold.{divisor-one, fold-literal}
 use Rattle.rules.specs.Laws.{DivisorOf}
 use Rattle.rules.proofs.Folding.{settles}
-use Rattle.builder.specs.Built.{Built, compared}
+use Rattle.builder.specs.Built.{Built}
 use Rattle.builder.specs.declared.push.State.{State}
 use Rattle.folding.specs.Answers.{Gives}
 use Rattle.folding.specs.declared.answers.Folded.the-variants.{Known, Pushed}
@@ -194,32 +194,30 @@ module _ (ws : List ℤ) (b : State) (ds : List Node) (s : Sum) (t : Test) where
       subst (λ (x : Rule). Gives ws b ds x (Pushed d))
       (ap (λ (b : Bool). cond b (Constant (passes t (factor 0 s))) (Literal t s)) (sym false-is ∙ settled)) (tt, h)
 
--- the node that a kind and a divisor stand for
+-- the test that a kind and a divisor stand for
 module _ {kind k : ℕ} where
-  pub positive-kind : kind ≡ 5 → (t : Test) → Marked kind k t → compared false ≡ t
-  unfolding compared
-  positive-kind e positive m = refl
-  positive-kind e (divisible true d) m = absurd (omega (arith, m .same-kind))
-  positive-kind e (divisible false d) m = absurd (omega (arith, m .same-kind))
-  positive-kind e is-zero m = absurd (omega (arith, m .same-kind))
+  pub positive-test : kind ≡ 5 → (t : Test) → Marked kind k t → t ≡ positive
+  positive-test e positive m = refl
+  positive-test e (divisible true d) m = absurd (omega (arith, m .same-kind))
+  positive-test e (divisible false d) m = absurd (omega (arith, m .same-kind))
+  positive-test e is-zero m = absurd (omega (arith, m .same-kind))
 
-  pub zero-kind : kind ≡ 10 → (t : Test) → Marked kind k t → compared true ≡ t
-  unfolding compared
-  zero-kind e positive m = absurd (omega (arith, m .same-kind))
-  zero-kind e (divisible true d) m = absurd (omega (arith, m .same-kind))
-  zero-kind e (divisible false d) m = absurd (omega (arith, m .same-kind))
-  zero-kind e is-zero m = refl
+  pub zero-test : kind ≡ 10 → (t : Test) → Marked kind k t → t ≡ is-zero
+  zero-test e positive m = absurd (omega (arith, m .same-kind))
+  zero-test e (divisible true d) m = absurd (omega (arith, m .same-kind))
+  zero-test e (divisible false d) m = absurd (omega (arith, m .same-kind))
+  zero-test e is-zero m = refl
 
-  pub divisor-kind : ¬ (kind ≡ 5) → ¬ (kind ≡ 10) → (t : Test) → Marked kind k t → divisible (eqb kind 6) k ≡ t
-  divisor-kind n5 n10 positive m = absurd (n5 (m .same-kind))
-  divisor-kind n5 n10 (divisible true d) m =
-      ap (λ (b : Bool). divisible b k) (eq-eqb kind 6 (m .same-kind)) ∙ ap (divisible true) (m .same-divisor)
-  divisor-kind n5 n10 (divisible false d) m =
-      ap (λ (b : Bool). divisible b k) (ne-eqb kind 6 (λ e. omega (arith, m .same-kind)))
-      ∙ ap (divisible false) (m .same-divisor)
-  divisor-kind n5 n10 is-zero m = absurd (n10 (m .same-kind))
+  pub divisor-test : ¬ (kind ≡ 5) → ¬ (kind ≡ 10) → (t : Test) → Marked kind k t → t ≡ divisible (eqb kind 6) k
+  divisor-test n5 n10 positive m = absurd (n5 (m .same-kind))
+  divisor-test n5 n10 (divisible true d) m =
+      sym (ap (λ (b : Bool). divisible b k) (eq-eqb kind 6 (m .same-kind)) ∙ ap (divisible true) (m .same-divisor))
+  divisor-test n5 n10 (divisible false d) m =
+      sym (ap (λ (b : Bool). divisible b k) (ne-eqb kind 6 (λ e. omega (arith, m .same-kind)))
+      ∙ ap (divisible false) (m .same-divisor))
+  divisor-test n5 n10 is-zero m = absurd (n10 (m .same-kind))
 
--- the literal that was put has that node
-pub node-is : (ws : List ℤ) (d : State) (ds : List Node) (s : Sum) (u t : Test) → u ≡ t
+-- the literal that was put has its node
+pub node-is : (ws : List ℤ) (d : State) (ds : List Node) (s : Sum) (u t : Test) → t ≡ u
     → Built ws d (literal-node u s ∷ ds) → Built ws d (literal-node t s ∷ ds)
-node-is ws d ds s u t e h = subst (λ (x : Test). Built ws d (literal-node x s ∷ ds)) e h
+node-is ws d ds s u t e h = subst (λ (x : Test). Built ws d (literal-node x s ∷ ds)) (sym e) h

@@ -14,7 +14,7 @@ use mir.Syntax.{w32}
 use mir.Val.{SFits, toZ, ofZ}
 use mir.Facts.{toZ-ofZ}
 use Rattle.whole.specs.Integers.{eqZ, within}
-use Rattle.whole.proofs.Tests.{T-and}
+use Rattle.whole.proofs.Tests.{T-and, is-true, never}
 use Rattle.whole.proofs.Difference.{zz, z1}
 use Rattle.rules.specs.Sum.{Sum, factor, limit, all-within, add, scale, one-plus}
 use Rattle.rules.specs.Rule.{Test, positive, divisible, is-zero, Literal}
@@ -33,13 +33,6 @@ use Rattle.literals.proofs.Sizes.{size-mul, fits-size}
 use Rattle.walks.specs.Sums.{turned, raised, raise, passes-limit, SumAt, SomeSum, TestAt, SomeTestAt}
 use Rattle.walks.specs.Normal.{Normalled}
 use Rattle.walks.specs.declared.normal.Normal.the-variants.{OverLimit, Made}
-
-true-is : (b : Bool) → T b → b ≡ true
-true-is true h = refl
-true-is false h = absurd h
-
-false-true : {A : Type 0} → false ≡ true → A
-false-true e = absurd (subst T (sym e) tt)
 
 -- ---- seven words
 
@@ -206,7 +199,7 @@ within-more (pos n) h = by (eqb n limit) refl
     by : (b : Bool) → eqb n limit ≡ b → leb (1 + n) limit ≡ not b
     by true e = lt-leb (1 + n) limit (omega (arith, eqb→eq n limit (subst T (sym e) tt)))
     by false e =
-        let less : ¬ (n ≡ limit) = λ i. false-true (sym e ∙ eq-eqb n limit i) in
+        let less : ¬ (n ≡ limit) = λ i. never (sym e ∙ eq-eqb n limit i) in
         le-leb (1 + n) limit (omega (arith, h, less))
 within-more (negsuc zero) h = refl
 within-more (negsuc (suc n)) h =
@@ -220,7 +213,7 @@ and-true false r h = refl
 module _ (u : Sum) (long : length u ≡ 7) (small : T (all-within limit u)) where
   within-raised : (one : Bool) → all-within limit (raised one u) ≡ not (passes-limit one (factor 0 u))
   unfolding raise
-  within-raised false = unfold raised in true-is (all-within limit u) small
+  within-raised false = unfold raised in is-true (all-within limit u) small
   within-raised true =
       ap (all-within limit) (sym (sum-words true u long _ _ _ _ _ _ _ refl refl refl refl refl refl refl))
       ∙ rest (seven-of u long) small ∙ within-more (factor 0 u) (within-all u 0 small)

@@ -8,12 +8,12 @@ use mathlib.Core.List.{List}
 use Prim.Native.Nat.{ℕ, zero, suc, _+_, _<_, _≤_}
 use lib.IntN.{ℤ}
 use lib.ListN.{drop}
-use Rattle.rules.specs.Rule.{Rule, Constant, Join, Not, Literal, Bind}
+use Rattle.rules.specs.Rule.{Quantifier, Rule, Constant, Join, Not, Literal, Bind}
 use Rattle.rules.specs.Table.{Node, most-words}
 use Rattle.rules.specs.Fold.{fold-not}
 use Rattle.rules.specs.Laws.{WellFormed}
 use Rattle.rules.proofs.Sizes.{weight, total}
-use Rattle.tables.specs.Standing.{Stands, Few}
+use Rattle.tables.specs.Standing.{Stands, RuleAt}
 use Rattle.builder.specs.Built.{most-counted}
 use Rattle.builder.specs.declared.push.State.{State}
 use Rattle.folding.specs.Answers.{Gives}
@@ -29,13 +29,10 @@ unary (Literal t s) = false
 unary (Bind q v a) = true
 
 -- the first k nodes are nots and quantifiers
-unfoldable pub Chained : ℕ → Rule → Type 0
-Chained zero r = Unit {0}
-Chained (suc k) (Constant b) = ⊥
-Chained (suc k) (Join j a b) = ⊥
-Chained (suc k) (Not a) = Chained k a
-Chained (suc k) (Literal t s) = ⊥
-Chained (suc k) (Bind q v a) = Chained k a
+pub data Chained : ℕ → Rule → Type 0 where
+  no-link : (r : Rule) → Chained 0 r
+  a-not : {k : ℕ} (a : Rule) → Chained k a → Chained (suc k) (Not a)
+  a-bind : {k : ℕ} (q : Quantifier) (v : ℕ) (a : Rule) → Chained k a → Chained (suc k) (Bind q v a)
 
 -- what stands under them, and how many words they have
 unfoldable pub below : ℕ → Rule → Rule
@@ -65,9 +62,12 @@ wrap (suc k) (Literal t s) f = f
 wrap (suc k) (Bind q v a) f = Bind q v (wrap k a f)
 
 -- the words of a not and of a quantifier, by their kinds; 0 for every other kind
-abbrev pub LinkOf : ℕ → ℕ → Type 0
-LinkOf kind w = (kind ≡ 4 → w ≡ 1) × (kind ≡ 8 → w ≡ 2) × (kind ≡ 9 → w ≡ 2)
-    × (¬ (kind ≡ 4) → ¬ (kind ≡ 8) → ¬ (kind ≡ 9) → w ≡ 0)
+pub record LinkOf (kind w : ℕ) : Type 0 where
+  pub negation : kind ≡ 4 → w ≡ 1
+  pub for-some : kind ≡ 8 → w ≡ 2
+  pub for-all : kind ≡ 9 → w ≡ 2
+  pub other : ¬ (kind ≡ 4) → ¬ (kind ≡ 8) → ¬ (kind ≡ 9) → w ≡ 0
+  pub few : w ≤ 2
 
 -- a chain at the start of r: at most so many nodes, and as many as there are
 pub record ChainOf (most : ℕ) (r : Rule) (c : Links) : Type 0 where
@@ -82,9 +82,7 @@ pub record SomeStands (bs : List ℤ) : Type 0 where
   pub number : ℕ
   pub place : ℕ
   pub rule : Rule
-  pub stands : Stands entries bs number place rule
-  pub few : Few entries bs number place
-  pub formed : WellFormed rule
+  pub at : RuleAt entries bs number place rule
 
 -- ---- going up again
 
@@ -108,11 +106,9 @@ pub record SomeOver (bs : List ℤ) (at : ℕ) (ws : List ℤ) (b : State) (inne
   pub over : Over entries bs number place at ws b rule under tail inner
 
 -- under the first k nodes of the rule r, which stands there, f was answered
-pub record Wrapping (es bs : List ℤ) (n p k : ℕ) (ws : List ℤ) (b : State) (r f : Rule) (ds : List Node) (inner : Folded)
-    : Type 0 where
-  pub stands : Stands es bs n p r
-  pub few : Few es bs n p
-  pub formed : WellFormed r
+pub record Wrapping (es bs : List ℤ) (n p k : ℕ) (ws : List ℤ) (b : State) (r f : Rule) (ds : List Node)
+    (inner : Folded) : Type 0 where
+  pub at : RuleAt es bs n p r
   pub chained : Chained k r
   pub gives : Gives ws b ds f inner
   pub small : total ds + weight f + chain-words k r < most-counted

@@ -14,7 +14,7 @@ use Rattle.rules.specs.Eliminate.{over-limit}
 use Rattle.rules.specs.Laws.{DivisorOf}
 use Rattle.builder.specs.Built.{Countable}
 use Rattle.builder.specs.declared.push.State.{State}
-use Rattle.literals.specs.Literal.{Marked, LiteralAt}
+use Rattle.literals.specs.Literal.{Marked, SomeLiteral}
 use Rattle.literals.specs.Changes.{becomes, Usable, changed-sum, changed-test, divisor-or-none}
 use Rattle.literals.specs.declared.change.Change.{Change}
 
@@ -30,23 +30,17 @@ pub record Puttable (kind k : ℕ) (s : Sum) (b : State) : Type 0 where
   pub seven : length s ≡ 7
   pub countable : Countable b 9
 
--- some literal stands there that the change keeps, its numbers within the limit
-pub record SomeKept (ws : List ℤ) (c : Change) (u : Sum) (b : State) : Type 0 where
-  pub node : ℕ
-  pub test : Test
-  pub sum : Sum
-  pub at : LiteralAt ws node test sum
+-- some literal stands there, and what becomes of it has no number over the limit
+pub record SomeChangeable (ws : List ℤ) (c : Change) (u : Sum) (b : State) : Type 0 where
+  pub some : SomeLiteral ws
   pub usable : Usable c u
-  pub within : T (all-within limit (changed-sum c u sum))
-  pub small : divisor-or-none (changed-test c sum test) ≤ limit
+  pub numbers : T (not (some-literal over-limit (becomes c u (some .test) (some .sum))))
   pub countable : Countable b 9
 
--- some literal stands there, and what becomes of it has no number over the limit
-pub record SomeLiteralReady (ws : List ℤ) (c : Change) (u : Sum) (b : State) : Type 0 where
-  pub node : ℕ
-  pub test : Test
-  pub sum : Sum
-  pub at : LiteralAt ws node test sum
+-- the same of one that the change keeps a literal
+pub record SomeKept (ws : List ℤ) (c : Change) (u : Sum) (b : State) : Type 0 where
+  pub some : SomeLiteral ws
   pub usable : Usable c u
-  pub numbers : T (not (some-literal over-limit (becomes c u test sum)))
+  pub within : T (all-within limit (changed-sum c u (some .sum)))
+  pub small : divisor-or-none (changed-test c (some .sum) (some .test)) ≤ limit
   pub countable : Countable b 9

@@ -2,20 +2,19 @@
 -- Assumes nothing.
 use mathlib.Core.Bool.{not}
 use mathlib.Core.List.{List}
-use Prim.Native.Nat.{ℕ, _+_, _*_, _<_, _≤_}
+use Prim.Native.Nat.{ℕ, _*_, _≤_}
 use lib.Dec.{T}
 use lib.IntN.{ℤ}
-use lib.ListN.{length}
 use Rattle.rules.specs.Sum.{Sum, limit, all-within}
 use Rattle.rules.specs.Rule.{Test, Rule}
-use Rattle.rules.specs.Table.{Node, most-words}
+use Rattle.rules.specs.Table.{Node}
 use Rattle.rules.specs.Fold.{fold}
 use Rattle.rules.specs.Literals.{some-literal}
 use Rattle.rules.specs.Eliminate.{over-limit}
-use Rattle.rules.specs.Laws.{WellFormed, QuantifierFree}
-use Rattle.rules.proofs.Sizes.{weight, total}
-use Rattle.tables.specs.Standing.{Stands, Few}
-use Rattle.builder.specs.Built.{Built, most-counted}
+use Rattle.rules.specs.Laws.{QuantifierFree}
+use Rattle.rules.proofs.Sizes.{weight}
+use Rattle.tables.specs.Standing.{RuleAt}
+use Rattle.builder.specs.Built.{Building}
 use Rattle.builder.specs.declared.push.State.{State}
 use Rattle.folding.specs.Answers.{Gives}
 use Rattle.literals.specs.Literal.{LiteralAt}
@@ -25,19 +24,10 @@ use Rattle.walks.specs.declared.normal.Normal.the-variants.{OverLimit, M
 
 -- a body a without quantifiers stands there, and the nodes ds are built; a T = 0 becomes two literals under a join
 pub record NormalReady (es bs : List ℤ) (n p x : ℕ) (ws : List ℤ) (b : State) (a : Rule) (ds : List Node) : Type 0 where
-  pub stands : Stands es bs n p a
-  pub few : Few es bs n p
-  pub formed : WellFormed a
+  pub at : RuleAt es bs n p a
   pub free : QuantifierFree a
   pub setting : (1 ≤ x) × (x ≤ 6)
-  pub built : Built ws b ds
-  pub small : total ds + 3 * weight a < most-counted
-  pub room : length ws ≤ most-words
-
-pub record SomeNormalReady (es bs : List ℤ) (n p x : ℕ) (ws : List ℤ) (b : State) : Type 0 where
-  pub rule : Rule
-  pub tail : List Node
-  pub ready : NormalReady es bs n p x ws b rule tail
+  pub building : Building ws b ds (3 * weight a)
 
 -- "numbers come first": a number of the normal form r passes the limit; or r is folded and put
 unfoldable pub Normalled : List ℤ → State → List Node → Rule → Normal → Type 0
@@ -52,9 +42,7 @@ pub record LiteralReady (bs : List ℤ) (n x : ℕ) (ws : List ℤ) (b : State) 
   pub at : LiteralAt bs n t s
   pub limited : T (all-within limit s)
   pub setting : (1 ≤ x) × (x ≤ 6)
-  pub built : Built ws b ds
-  pub small : total ds + 18 < most-counted
-  pub room : length ws ≤ most-words
+  pub building : Building ws b ds 18
 
 pub record SomeLiteralReady (bs : List ℤ) (x : ℕ) (ws : List ℤ) (b : State) : Type 0 where
   pub node : ℕ
@@ -66,9 +54,7 @@ pub record SomeLiteralReady (bs : List ℤ) (x : ℕ) (ws : List ℤ) (b : State
 -- the T of a T = 0
 pub record ZeroReady (bs : List ℤ) (ws : List ℤ) (b : State) (s : Sum) (ds : List Node) : Type 0 where
   pub at : SumAt bs 1 s
-  pub built : Built ws b ds
-  pub small : total ds + 18 < most-counted
-  pub room : length ws ≤ most-words
+  pub building : Building ws b ds 18
 
 pub record SomeZeroReady (bs : List ℤ) (ws : List ℤ) (b : State) : Type 0 where
   pub sum : Sum

@@ -3,20 +3,17 @@
 use mathlib.Core.Path.{_≡_}
 use mathlib.Core.Bool.{false, not}
 use mathlib.Core.List.{List}
-use Prim.Native.Nat.{ℕ, _+_, _<_, _≤_}
+use Prim.Native.Nat.{ℕ, _+_}
 use lib.Dec.{T}
 use lib.IntN.{ℤ}
-use lib.ListN.{length}
 use Rattle.rules.specs.Sum.{Sum}
 use Rattle.rules.specs.Rule.{Rule}
-use Rattle.rules.specs.Table.{Node, most-words}
-use Rattle.rules.specs.Fold.{fold}
+use Rattle.rules.specs.Table.{Node}
 use Rattle.rules.specs.Literals.{some-literal, map-literals}
 use Rattle.rules.specs.Eliminate.{over-limit}
-use Rattle.rules.specs.Laws.{WellFormed}
-use Rattle.rules.proofs.Sizes.{weight, total}
-use Rattle.tables.specs.Standing.{Stands, Few}
-use Rattle.builder.specs.Built.{Built, most-counted}
+use Rattle.rules.proofs.Sizes.{weight}
+use Rattle.tables.specs.Standing.{RuleAt}
+use Rattle.builder.specs.Built.{Building}
 use Rattle.builder.specs.declared.push.State.{State}
 use Rattle.walks.specs.Chain.{unary}
 use Rattle.literals.specs.Changes.{becomes, Usable}
@@ -31,19 +28,10 @@ changed c u a = map-literals (becomes c u) a
 -- are built; its words can be counted, and one more, since a literal asks for the nine of the widest
 pub record Ready (es bs : List ℤ) (n p : ℕ) (c : Change) (u : Sum) (ws : List ℤ) (b : State) (a : Rule) (ds : List Node)
     : Type 0 where
-  pub stands : Stands es bs n p a
-  pub few : Few es bs n p
-  pub formed : WellFormed a
+  pub at : RuleAt es bs n p a
   pub usable : Usable c u
   pub numbers : T (not (some-literal over-limit (changed c u a)))
-  pub built : Built ws b ds
-  pub small : total ds + weight a + 1 < most-counted
-  pub room : length ws ≤ most-words
-
-pub record SomeReady (es bs : List ℤ) (n p : ℕ) (c : Change) (u : Sum) (ws : List ℤ) (b : State) : Type 0 where
-  pub rule : Rule
-  pub tail : List Node
-  pub ready : Ready es bs n p c u ws b rule tail
+  pub building : Building ws b ds (weight a + 1)
 
 -- the same of a rule that is neither a not nor a quantifier
 pub record Core (es bs : List ℤ) (n p : ℕ) (c : Change) (u : Sum) (ws : List ℤ) (b : State) (a : Rule) (ds : List Node)
@@ -51,7 +39,8 @@ pub record Core (es bs : List ℤ) (n p : ℕ) (c : Change) (u : Sum) (ws : List
   pub ready : Ready es bs n p c u ws b a ds
   pub bare : unary a ≡ false
 
-pub record SomeCore (es bs : List ℤ) (n p : ℕ) (c : Change) (u : Sum) (ws : List ℤ) (b : State) : Type 0 where
+-- it is so of some rule that stands there and some nodes that are built
+pub record SomeRule (Is : Rule → List Node → Type 0) : Type 0 where
   pub rule : Rule
   pub tail : List Node
-  pub core : Core es bs n p c u ws b rule tail
+  pub ready : Is rule tail

@@ -21,7 +21,7 @@ pub struct Links {
 
 // The words of a not and of a quantifier; 0 for every other kind.
 fn link(kind: usize) -> usize
-    ensures { λ r. ⌜ LinkOf kind r × (r ≤ 2) ⌝ }
+    ensures { λ r. ⌜ LinkOf kind r ⌝ }
 {
     if kind == 4 {
         return 1;

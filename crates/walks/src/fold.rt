@@ -13,7 +13,7 @@ ghost use Rattle.rules.specs.Table.{Node};
 ghost use Rattle.rules.specs.Fold.{fold as fold-of};
 ghost use Rattle.rules.specs.Calls.{words as words-of};
 ghost use Rattle.folding.specs.Answers.{Gives};
-ghost use Rattle.walks.specs.Walk.{changed, Ready, SomeReady, Core, SomeCore};
+ghost use Rattle.walks.specs.Walk.{changed, Ready, Core, SomeRule};
 
 // The rule that starts these entries and bodies, as this node at this place.
 pub fn fold(
@@ -26,8 +26,8 @@ pub fn fold(
     out: &mut [u8],
     b: State,
 ) -> Folded
-    requires { ⌜ SomeReady (words-of (now entries)) (words-of (now bodies)) node place change (now u)
-        (words-of (now out)) b ⌝ }
+    requires { ⌜ SomeRule (Ready (words-of (now entries)) (words-of (now bodies)) node place change (now u)
+        (words-of (now out)) b) ⌝ }
     ensures { λ r. ⌜ ((a : Rule) (ds : List Node)
         → Ready (words-of (now (entries .entry))) (words-of (now (bodies .entry))) node place change (now (u .entry))
         (words-of (now (out .entry))) b a ds
@@ -61,8 +61,8 @@ fn core(
     out: &mut [u8],
     b: State,
 ) -> Folded
-    requires { ⌜ SomeCore (words-of (now entries)) (words-of (now bodies)) node place change (now u)
-        (words-of (now out)) b ⌝ }
+    requires { ⌜ SomeRule (Core (words-of (now entries)) (words-of (now bodies)) node place change (now u)
+        (words-of (now out)) b) ⌝ }
     ensures { λ r. ⌜ ((a : Rule) (ds : List Node)
         → Core (words-of (now (entries .entry))) (words-of (now (bodies .entry))) node place change (now (u .entry))
         (words-of (now (out .entry))) b a ds

@@ -17,7 +17,7 @@ ghost use Rattle.builder.specs.Built.{Built};
 ghost use Rattle.folding.specs.Answers.{Gives};
 ghost use Rattle.literals.specs.Literal.{LiteralAt};
 ghost use Rattle.literals.specs.Changes.{becomes, changed-sum, changed-test};
-ghost use Rattle.walks.specs.Literals.{SomeKept, SomeLiteralReady};
+ghost use Rattle.walks.specs.Literals.{SomeChangeable, SomeKept};
 
 // The literal whose body starts these words, which the change keeps a literal, changed and folded.
 fn kept(bodies: &[u8], change: Change, u: &[i64], out: &mut [u8], b: State) -> Folded
@@ -35,7 +35,7 @@ fn kept(bodies: &[u8], change: Change, u: &[i64], out: &mut [u8], b: State) -> F
 
 // The literal whose body starts these words, changed and folded.
 pub fn literal(bodies: &[u8], change: Change, u: &[i64], out: &mut [u8], b: State) -> Folded
-    requires { ⌜ SomeLiteralReady (words-of (now bodies)) change (now u) b ⌝ }
+    requires { ⌜ SomeChangeable (words-of (now bodies)) change (now u) b ⌝ }
     ensures { λ r. ⌜ ((n : ℕ) (t : Test) (s : Sum) (ds : List Node) → LiteralAt (words-of (now (bodies .entry))) n t s
         → Built (words-of (now (out .entry))) b ds
         → Gives (words-of (now (out .exit))) b ds (fold (becomes change (now (u .entry)) t s)) r) ⌝ }

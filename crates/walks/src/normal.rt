@@ -15,7 +15,8 @@ ghost use Rattle.rules.specs.Rule.{Rule};
 ghost use Rattle.rules.specs.Table.{Node};
 ghost use Rattle.rules.specs.Steps.{normal};
 ghost use Rattle.rules.specs.Calls.{words as words-of};
-ghost use Rattle.walks.specs.Normal.{NormalReady, SomeNormalReady, Normalled};
+ghost use Rattle.walks.specs.Walk.{SomeRule};
+ghost use Rattle.walks.specs.Normal.{NormalReady, Normalled};
 
 // A number of the normal form passes the limit; or it is built.
 pub enum Normal {
@@ -34,8 +35,8 @@ pub fn plain(
     out: &mut [u8],
     b: State,
 ) -> Normal
-    requires { ⌜ SomeNormalReady (words-of (now entries)) (words-of (now bodies)) node place x
-        (words-of (now out)) b ⌝ }
+    requires { ⌜ SomeRule (NormalReady (words-of (now entries)) (words-of (now bodies)) node place x
+        (words-of (now out)) b) ⌝ }
     ensures { λ r. ⌜ ((a : Rule) (ds : List Node)
         → NormalReady (words-of (now (entries .entry))) (words-of (now (bodies .entry))) node place x
         (words-of (now (out .entry))) b a ds
@@ -60,11 +61,11 @@ pub fn plain(
         return normal_literal::literal(true, bodies, x, out, b);
     }
     let side = sides::right(entries, bodies, node, place);
-    let behind = side.entries;
-    let from = side.bodies;
+    let from = side.entries;
+    let start = side.bodies;
     let right = plain(
-        &entries[behind..],
-        &bodies[from..],
+        &entries[from..],
+        &bodies[start..],
         side.node,
         side.place,
         x,
@@ -99,8 +100,8 @@ pub fn under(
     out: &mut [u8],
     b: State,
 ) -> Normal
-    requires { ⌜ SomeNormalReady (words-of (now entries)) (words-of (now bodies)) node place x
-        (words-of (now out)) b ⌝ }
+    requires { ⌜ SomeRule (NormalReady (words-of (now entries)) (words-of (now bodies)) node place x
+        (words-of (now out)) b) ⌝ }
     ensures { λ r. ⌜ ((a : Rule) (ds : List Node)
         → NormalReady (words-of (now (entries .entry))) (words-of (now (bodies .entry))) node place x
         (words-of (now (out .entry))) b a ds
@@ -125,11 +126,11 @@ pub fn under(
         return normal_literal::literal(false, bodies, x, out, b);
     }
     let side = sides::right(entries, bodies, node, place);
-    let behind = side.entries;
-    let from = side.bodies;
+    let from = side.entries;
+    let start = side.bodies;
     let right = under(
-        &entries[behind..],
-        &bodies[from..],
+        &entries[from..],
+        &bodies[start..],
         side.node,
         side.place,
         x,

@@ -16,7 +16,7 @@ ghost use Rattle.rules.specs.Rule.{Test, divisible, is-zero, Literal, whether};
 ghost use Rattle.rules.specs.Table.{Node};
 ghost use Rattle.rules.specs.Steps.{normal-literal};
 ghost use Rattle.rules.specs.Calls.{words as words-of};
-ghost use Rattle.tables.proofs.Inversion.{test-kind};
+ghost use Rattle.tables.specs.Reads.{test-kind};
 ghost use Rattle.builder.specs.Built.{Built, Countable};
 ghost use Rattle.walks.specs.Sums.{turned, raised, raise, passes-limit, SumAt, SomeSum, TestAt, SomeTestAt};
 ghost use Rattle.walks.specs.Normal.{Normalled, LiteralReady, SomeLiteralReady, ZeroReady, SomeZeroReady};

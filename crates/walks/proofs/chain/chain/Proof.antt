@@ -33,7 +33,7 @@ returns c =
     let at = read .before .before in
     let (few, reached) = at .loop .inv in
     reached-ends _ _ _ reached _ few
-    (λ es n p a s. inr (reached-end _ _ _ reached _ _ (read .natural .ensures .1) (link .link .ensures .0)
+    (λ es n p a s. inr (reached-end _ _ _ reached _ _ (read .natural .ensures .1) (link .link .ensures)
     (c .if1 .taken) es n p a s))
 
 add-at : tie.Need-add-at Inv-loop μ-loop
@@ -41,7 +41,7 @@ add-at c =
     let link = c .before in
     let at = link .before .before .before in
     let inside = reached-inside _ _ _ (at .loop .inv .1) (at .before .before .pre .0) in
-    omega (arith, inside .1, link .link .ensures .1)
+    omega (arith, inside .1, link .link .ensures .few)
 
 add-nodes : tie.Need-add-nodes Inv-loop μ-loop
 add-nodes c = omega (arith, c .before .before .before .before .before .before .pre .1)
@@ -54,7 +54,7 @@ loop-again c =
     let link = c .before in
     let read = link .before in
     let at = read .before .before in
-    let one-more = reached-more _ _ _ (at .loop .inv .1) _ _ (read .natural .ensures .1) (link .link .ensures .0) in
+    let one-more = reached-more _ _ _ (at .loop .inv .1) _ _ (read .natural .ensures .1) (link .link .ensures) in
     (omega arith, one-more (c .if1 .left))
 
 returns-2 : tie.Need-returns-2 Inv-loop μ-loop

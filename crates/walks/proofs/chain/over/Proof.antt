@@ -2,7 +2,7 @@
 -- Assumes nothing.
 use borrow.Author.Needs.{needs}
 use Rattle.rules.specs.Calls.{words}
-use Rattle.walks.proofs.UpLaws.{KindRead, over-there, not-asks, not-over, setting-there, bind-asks, bind-over}
+use Rattle.walks.proofs.LinkLaws.{KindRead, over-there, not-asks, not-over, setting-there, bind-asks, bind-over}
 use Rattle.walks.proofs.chain.over.Statement.{statement}
 use Rattle.walks.proofs.chain.over.Tie as tie
 

@@ -6,43 +6,42 @@ use Prim.Native.Nat.{ℕ, _+_, _*_, _<_}
 use native.Mathlib.Omega.{arith}
 use borrow.Author.Needs.{needs}
 use lib.ListN.{length}
-use Rattle.walks.proofs.FoldLaws.{
-  Call,
-  Kinded,
-  JoinKind,
-  RightFound,
-  RightAnswered,
-  BothAnswered,
-  Linked,
-  InnerAnswered,
+use Rattle.walks.proofs.PartLaws.{
   first-word,
-  constant-gives,
-  literal-asks,
-  literal-gives,
-  right-asks,
   entry-there,
-  body-there,
   left-shorter,
+  right-asks,
+  body-there,
   next-node,
   next-place,
   entries-there,
   bodies-there,
   right-shorter,
-  right-side-asks,
-  settled-gives,
-  left-asks,
-  joined-asks,
-  joined-gives,
   chain-asks,
   nodes-there,
   words-there,
   inner-node,
   inner-place,
   inner-short,
-  core-asks,
-  wrapped-asks,
-  wrapped-gives,
 }
+use Rattle.walks.proofs.FoldLaws.{
+  Call,
+  Kinded,
+  JoinKind,
+  RightAnswered,
+  BothAnswered,
+  constant-gives,
+  literal-asks,
+  literal-gives,
+  join-there,
+  right-side-asks,
+  settled-gives,
+  left-side-asks,
+  joined-asks,
+  joined-gives,
+}
+use Rattle.walks.proofs.FoldChainLaws.{Linked, InnerAnswered, chain-there, core-asks}
+use Rattle.walks.proofs.FoldChainLaws.{wrapped-asks, wrapped-gives}
 use borrow.Fn.Kinds.{In}
 use borrow.Fn.PlainCycle.{Measures, is, falls, and}
 use Rattle.walks.proofs.fold.core.Reads as core
@@ -62,23 +61,23 @@ use Rattle.walks.proofs.literal.literal.Reads as literal-reads
 use Rattle.walks.proofs.fold.+core+fold.{statement}
 use Rattle.walks.proofs.fold.+core+fold.Tie.{close}
 
-abbrev μ-core : Measures 4 core-kinds.ps ℕ
-μ-core κs a = 2 * length (a .0 .now)
+abbrev core-measure : Measures 4 core-kinds.ps ℕ
+core-measure κs a = 2 * length (a .0 .now)
 
-abbrev μ-fold : Measures 4 fold-kinds.ps ℕ
-μ-fold κs a = 2 * length (a .0 .now) + 1
+abbrev fold-measure : Measures 4 fold-kinds.ps ℕ
+fold-measure κs a = 2 * length (a .0 .now) + 1
 
 abbrev core-at : ℕ → In 4 core-kinds.ps
-core-at t = and 4 core-kinds.ps (is 4 core-kinds.ps μ-core t) core.Pre
+core-at t = and 4 core-kinds.ps (is 4 core-kinds.ps core-measure t) core.Pre
 
 abbrev core-below : ℕ → In 4 core-kinds.ps
-core-below t = and 4 core-kinds.ps (falls 4 core-kinds.ps _<_ μ-core t) core.Pre
+core-below t = and 4 core-kinds.ps (falls 4 core-kinds.ps _<_ core-measure t) core.Pre
 
 abbrev fold-at : ℕ → In 4 fold-kinds.ps
-fold-at t = and 4 fold-kinds.ps (is 4 fold-kinds.ps μ-fold t) fold.Pre
+fold-at t = and 4 fold-kinds.ps (is 4 fold-kinds.ps fold-measure t) fold.Pre
 
 abbrev fold-below : ℕ → In 4 fold-kinds.ps
-fold-below t = and 4 fold-kinds.ps (falls 4 fold-kinds.ps _<_ μ-fold t) fold.Pre
+fold-below t = and 4 fold-kinds.ps (falls 4 fold-kinds.ps _<_ fold-measure t) fold.Pre
 
 -- what the calls ask and learn
 abbrev core-calls : ℕ → core-lts.Claims
@@ -113,10 +112,7 @@ module _ (t : ℕ) where
   -- the call, and the ways back: to the start, to where the kind is read, to where the right side is found and answered
   abbrev core-call : core-lts.Start (core-calls t) (core-at t) core.Post → Call
   core-call c = let a = c .args in record {
-    entries = a .entries .now;
-    bodies = a .bodies .now;
-    node = a .node;
-    place = a .place;
+    part = record { entries = a .entries .now; bodies = a .bodies .now; node = a .node; place = a .place };
     change = a .change;
     sum = a .u .now;
     out = a .out .now;
@@ -149,19 +145,15 @@ module _ (t : ℕ) where
       → let r = kind-read c in JoinKind (core-call (core-start r)) (r .natural .result)
   join-kind c = record { kinded = kinded (kind-read c); low = c .before .if1 .left; high = c .if2 .left }
 
-  -- the right side is found
-  right-found : (c : core-lts.After-right (core-calls t) (core-at t) core.Post)
-      → let r = kind-read (c .before) in RightFound (core-call (core-start r)) (r .natural .result) (c .right .result)
-  right-found c = record { join = join-kind (c .before); found = c .right .ensures }
-
-  -- it is answered
+  -- the right side is answered
   right-answered : (c : core-lts.After-fold (core-calls t) (core-at t) core.Post)
       → let found = side-found c in
       let r = kind-read (found .before) in
       RightAnswered (core-call (core-start r)) (r .natural .result) (found .right .result)
       (c .fold .last .1 .1 .1 .1 .1 .1 .0) (c .fold .result)
   right-answered c = record {
-    right = right-found (side-found c);
+    join = join-kind (side-found c .before);
+    found = side-found c .right .ensures;
     answered = c .fold .ensures;
     kept = c .fold .kept .1 .1 .1 .1 .1 .1 .0;
   }
@@ -170,7 +162,7 @@ module _ (t : ℕ) where
   join-open : (c : core-lts.After-after (core-calls t) (core-at t) core.Post)
       → let r = kind-read (side-found (side-answered (c .before .before)) .before) in
       JoinKind (core-call (core-start r)) (r .natural .result)
-  join-open c = right-found (side-found (side-answered (c .before .before))) .join
+  join-open c = join-kind (side-found (side-answered (c .before .before)) .before)
 
   -- both sides are answered
   both-answered : (c : core-lts.After-fold2 (core-calls t) (core-at t) core.Post)
@@ -192,116 +184,65 @@ module _ (t : ℕ) where
         kept = c .fold2 .kept .1 .1 .1 .1 .1 .1 .0;
       }
 
-  core-natural-requires : core-lts.Need-natural-requires (core-calls t) (core-at t) core.Post
-  core-natural-requires c κs =
-      let first = c .before .before .before in first-word (core-call first) (first .pre .1)
-
-  core-returns : core-lts.Need-returns (core-calls t) (core-at t) core.Post
-  core-returns c = constant-gives (kinded (c .before)) (c .if1 .taken)
-
-  core-literal-requires : core-lts.Need-literal-requires (core-calls t) (core-at t) core.Post
-  core-literal-requires c κs = literal-asks (kinded (c .before .before .before)) (c .before .if2 .taken)
-
-  core-same-length : core-lts.Need-same-length (core-calls t) (core-at t) core.Post
-  core-same-length c = search needs
-
-  core-returns-2 : core-lts.Need-returns-2 (core-calls t) (core-at t) core.Post
-  core-returns-2 c =
-      let answer = c .before .before in
-      let other = answer .before .before in
-      literal-gives (kinded (other .before .before)) (other .if2 .taken) _ _ (answer .literal .ensures)
-
-  core-right-requires : core-lts.Need-right-requires (core-calls t) (core-at t) core.Post
-  core-right-requires c κs = right-asks (join-kind c)
-
-  core-sub-fold : core-lts.Need-sub-fold (core-calls t) (core-at t) core.Post
-  core-sub-fold c = entries-there (right-found c)
-
-  core-part-fold-start : core-lts.Need-part-fold-start (core-calls t) (core-at t) core.Post
-  core-part-fold-start c = entries-there (right-found c)
-
-  core-part-fold-end : core-lts.Need-part-fold-end (core-calls t) (core-at t) core.Post
-  core-part-fold-end c = search needs
-
-  core-sub-fold-2 : core-lts.Need-sub-fold-2 (core-calls t) (core-at t) core.Post
-  core-sub-fold-2 c = bodies-there (right-found (c .before))
-
-  core-part-fold-start-2 : core-lts.Need-part-fold-start-2 (core-calls t) (core-at t) core.Post
-  core-part-fold-start-2 c = bodies-there (right-found (c .before))
-
-  core-part-fold-end-2 : core-lts.Need-part-fold-end-2 (core-calls t) (core-at t) core.Post
-  core-part-fold-end-2 c = search needs
-
-  core-fold-requires : core-lts.Need-fold-requires (core-calls t) (core-at t) core.Post
-  core-fold-requires c κs =
-      let found = c .before .before .before in
-      let counted = core-start (kind-read (found .before)) .pre .0 in
-      (omega (arith, counted, right-shorter (right-found found)), right-side-asks (right-found found))
-
-  core-settles-requires : core-lts.Need-settles-requires (core-calls t) (core-at t) core.Post
-  core-settles-requires c κs = tt
-
-  core-same-length-2 : core-lts.Need-same-length-2 (core-calls t) (core-at t) core.Post
-  core-same-length-2 c = search needs
-
-  core-returns-3 : core-lts.Need-returns-3 (core-calls t) (core-at t) core.Post
-  core-returns-3 c =
-      let settling = c .before in
-      settled-gives (right-answered (side-answered settling)) (sym (settling .settles .ensures) ∙ c .if3 .taken)
-
-  core-after-requires : core-lts.Need-after-requires (core-calls t) (core-at t) core.Post
-  core-after-requires c κs = tt
-
-  core-sub-fold-3 : core-lts.Need-sub-fold-3 (core-calls t) (core-at t) core.Post
-  core-sub-fold-3 c = entry-there (join-open c)
-
-  core-part-fold-start-3 : core-lts.Need-part-fold-start-3 (core-calls t) (core-at t) core.Post
-  core-part-fold-start-3 c = entry-there (join-open c)
-
-  core-part-fold-end-3 : core-lts.Need-part-fold-end-3 (core-calls t) (core-at t) core.Post
-  core-part-fold-end-3 c = search needs
-
-  core-sub-fold-4 : core-lts.Need-sub-fold-4 (core-calls t) (core-at t) core.Post
-  core-sub-fold-4 c = body-there (join-open (c .before))
-
-  core-part-fold-start-4 : core-lts.Need-part-fold-start-4 (core-calls t) (core-at t) core.Post
-  core-part-fold-start-4 c = body-there (join-open (c .before))
-
-  core-part-fold-end-4 : core-lts.Need-part-fold-end-4 (core-calls t) (core-at t) core.Post
-  core-part-fold-end-4 c = search needs
-
-  core-add-fold : core-lts.Need-add-fold (core-calls t) (core-at t) core.Post
-  core-add-fold c = omega (arith, next-node (join-open (c .before .before)))
-
-  core-add-fold-2 : core-lts.Need-add-fold-2 (core-calls t) (core-at t) core.Post
-  core-add-fold-2 c = omega (arith, next-place (join-open (c .before .before)))
-
-  core-fold-requires-2 : core-lts.Need-fold-requires-2 (core-calls t) (core-at t) core.Post
-  core-fold-requires-2 c κs =
-      let put = c .before .before .before in
+  -- what each step of the code asks, in its order
+  core-meets : {M : Type 1} → core-lts.Closed (core-calls t) (core-at t) core.Post M
+  core-meets = core-lts.spec (core-calls t) (core-at t) core.Post
+      -- the kind
+      (λ c κs. let s = c .before .before .before in first-word (core-call s .part) (s .pre .1 .ready .ready .at))
+      -- a constant
+      (λ c. constant-gives (kinded (c .before)) (c .if1 .taken))
+      -- a literal
+      (λ c κs. literal-asks (kinded (c .before .before .before)) (c .before .if2 .taken))
+      (λ c. search needs)
+      (λ c. let test = c .before .before .before .before in
+      literal-gives (kinded (test .before .before)) (test .if2 .taken) _ _ (c .before .before .literal .ensures))
+      -- a join: its right side is found
+      (λ c κs. right-asks (join-there (join-kind c)))
+      (λ c. entries-there (join-there (join-kind (c .before))) (c .right .ensures))
+      (λ c. entries-there (join-there (join-kind (c .before))) (c .right .ensures))
+      (λ c. search needs)
+      (λ c. bodies-there (join-there (join-kind (c .before .before))) (c .before .right .ensures))
+      (λ c. bodies-there (join-there (join-kind (c .before .before))) (c .before .right .ensures))
+      (λ c. search needs)
+      -- and walked
+      (λ c κs. let side = c .before .before .before in
+      let join = join-kind (side .before) in
+      let counted = core-start (kind-read (side .before)) .pre .0 in (
+        omega (arith, counted, right-shorter (join-there join) (side .right .ensures)),
+        right-side-asks join (side .right .ensures),
+      ))
+      -- it settles the join
+      (λ c κs. tt)
+      (λ c. search needs)
+      (λ c. let settling = c .before in
+      settled-gives (right-answered (side-answered settling)) (sym (settling .settles .ensures) ∙ c .if3 .taken))
+      (λ c κs. tt)
+      -- or the left side is walked
+      (λ c. entry-there _ (join-there (join-open c) .whole))
+      (λ c. entry-there _ (join-there (join-open c) .whole))
+      (λ c. search needs)
+      (λ c. body-there (join-there (join-open (c .before))))
+      (λ c. body-there (join-there (join-open (c .before))))
+      (λ c. search needs)
+      (λ c. omega (arith, next-node (join-there (join-open (c .before .before)))))
+      (λ c. omega (arith, next-place (join-there (join-open (c .before .before)))))
+      (λ c κs. let put = c .before .before .before in
       let first = side-answered (put .before .before) in
-      let counted = core-start (kind-read (side-found first .before)) .pre .0 in
-      (omega (arith, counted, left-shorter (join-open put)), left-asks (right-answered first) (put .after .ensures))
-
-  core-joined-requires : core-lts.Need-joined-requires (core-calls t) (core-at t) core.Post
-  core-joined-requires c κs = joined-asks (both-answered (c .before .before .before))
-
-  core-same-length-3 : core-lts.Need-same-length-3 (core-calls t) (core-at t) core.Post
-  core-same-length-3 c = search needs
-
-  core-returns-4 : core-lts.Need-returns-4 (core-calls t) (core-at t) core.Post
-  core-returns-4 c =
-      let joined = c .before .before in
-      joined-gives (both-answered (joined .before .before .before .before)) _ _ (joined .joined .ensures)
+      let start = core-start (kind-read (side-found first .before)) in (
+        omega (arith, start .pre .0, left-shorter (core-call start .part) (join-there (join-open put) .whole)),
+        left-side-asks (right-answered first) (put .after .ensures),
+      ))
+      -- and both are joined
+      (λ c κs. joined-asks (both-answered (c .before .before .before)))
+      (λ c. search needs)
+      (λ c. let joined = c .before .before in
+      joined-gives (both-answered (joined .before .before .before .before)) _ _ (joined .joined .ensures))
 
 module _ (t : ℕ) where
   -- the call, and the ways back to the start and to where the chain is found
   abbrev fold-call : fold-lts.Start (fold-calls t) (fold-at t) fold.Post → Call
   fold-call c = let a = c .args in record {
-    entries = a .entries .now;
-    bodies = a .bodies .now;
-    node = a .node;
-    place = a .place;
+    part = record { entries = a .entries .now; bodies = a .bodies .now; node = a .node; place = a .place };
     change = a .change;
     sum = a .u .now;
     out = a .out .now;
@@ -328,66 +269,30 @@ module _ (t : ℕ) where
       (c .core .result)
   inner-answered c = record { linked = linked (chain-found (c .before)); answered = c .core .ensures }
 
-  fold-chain-requires : fold-lts.Need-chain-requires (fold-calls t) (fold-at t) fold.Post
-  fold-chain-requires c κs =
-      let first = c .before .before .before in (chain-asks (fold-call first) (first .pre .1), omega arith)
-
-  fold-mul-from : fold-lts.Need-mul-from (fold-calls t) (fold-at t) fold.Post
-  fold-mul-from c = omega (arith, inner-node (linked (c .before)))
-
-  fold-mul-start : fold-lts.Need-mul-start (fold-calls t) (fold-at t) fold.Post
-  fold-mul-start c = omega (arith, inner-place (linked (c .before .before)))
-
-  fold-sub-core : fold-lts.Need-sub-core (fold-calls t) (fold-at t) fold.Post
-  fold-sub-core c = nodes-there (linked (c .before .before))
-
-  fold-part-core-start : fold-lts.Need-part-core-start (fold-calls t) (fold-at t) fold.Post
-  fold-part-core-start c = nodes-there (linked (c .before .before))
-
-  fold-part-core-end : fold-lts.Need-part-core-end (fold-calls t) (fold-at t) fold.Post
-  fold-part-core-end c = search needs
-
-  fold-sub-core-2 : fold-lts.Need-sub-core-2 (fold-calls t) (fold-at t) fold.Post
-  fold-sub-core-2 c = words-there (linked (c .before .before .before))
-
-  fold-part-core-start-2 : fold-lts.Need-part-core-start-2 (fold-calls t) (fold-at t) fold.Post
-  fold-part-core-start-2 c = words-there (linked (c .before .before .before))
-
-  fold-part-core-end-2 : fold-lts.Need-part-core-end-2 (fold-calls t) (fold-at t) fold.Post
-  fold-part-core-end-2 c = search needs
-
-  fold-add-core : fold-lts.Need-add-core (fold-calls t) (fold-at t) fold.Post
-  fold-add-core c = omega (arith, inner-node (linked (c .before .before .before .before .before)))
-
-  fold-add-core-2 : fold-lts.Need-add-core-2 (fold-calls t) (fold-at t) fold.Post
-  fold-add-core-2 c = omega (arith, inner-place (linked (c .before .before .before .before .before .before)))
-
-  fold-core-requires : fold-lts.Need-core-requires (fold-calls t) (fold-at t) fold.Post
-  fold-core-requires c κs =
-      let found = chain-found c in
-      (omega (arith, fold-start found .pre .0, inner-short (linked found)), core-asks (linked found))
-
-  fold-wrapped-requires : fold-lts.Need-wrapped-requires (fold-calls t) (fold-at t) fold.Post
-  fold-wrapped-requires c κs = wrapped-asks (inner-answered (c .before .before .before))
-
-  fold-same-length : fold-lts.Need-same-length (fold-calls t) (fold-at t) fold.Post
-  fold-same-length c = search needs
-
-  fold-returns : fold-lts.Need-returns (fold-calls t) (fold-at t) fold.Post
-  fold-returns c =
-      let wrapped = c .before .before in
-      wrapped-gives (inner-answered (wrapped .before .before .before .before)) _ _ (wrapped .wrapped .ensures)
+  -- what each step of the code asks, in its order
+  fold-meets : {M : Type 1} → fold-lts.Closed (fold-calls t) (fold-at t) fold.Post M
+  fold-meets = fold-lts.spec (fold-calls t) (fold-at t) fold.Post
+      -- the chain
+      (λ c κs. let s = c .before .before .before in
+      (chain-asks (fold-call s .part) (s .pre .1 .ready .at), omega arith))
+      -- what stands under it is walked
+      (λ c. omega (arith, inner-node (chain-there (linked (c .before)))))
+      (λ c. omega (arith, inner-place (chain-there (linked (c .before .before)))))
+      (λ c. nodes-there (chain-there (linked (c .before .before))))
+      (λ c. nodes-there (chain-there (linked (c .before .before))))
+      (λ c. search needs)
+      (λ c. words-there (chain-there (linked (c .before .before .before))))
+      (λ c. words-there (chain-there (linked (c .before .before .before))))
+      (λ c. search needs)
+      (λ c. omega (arith, inner-node (chain-there (linked (c .before .before .before .before .before)))))
+      (λ c. omega (arith, inner-place (chain-there (linked (c .before .before .before .before .before .before)))))
+      (λ c κs. let found = chain-found c in
+      (omega (arith, fold-start found .pre .0, inner-short (chain-there (linked found))), core-asks (linked found)))
+      -- and what was answered is wrapped
+      (λ c κs. wrapped-asks (inner-answered (c .before .before .before)))
+      (λ c. search needs)
+      (λ c. let wrapped = c .before .before in
+      wrapped-gives (inner-answered (wrapped .before .before .before .before)) _ _ (wrapped .wrapped .ensures))
 
 pub +core+fold-spec : {M : Type 1} → statement M
-+core+fold-spec = close μ-core μ-fold
-    (λ t. core-lts.spec (core-calls t) (core-at t) core.Post
-    (core-natural-requires t) (core-returns t) (core-literal-requires t) (core-same-length t) (core-returns-2 t)
-    (core-right-requires t) (core-sub-fold t) (core-part-fold-start t) (core-part-fold-end t) (core-sub-fold-2 t)
-    (core-part-fold-start-2 t) (core-part-fold-end-2 t) (core-fold-requires t) (core-settles-requires t)
-    (core-same-length-2 t) (core-returns-3 t) (core-after-requires t) (core-sub-fold-3 t) (core-part-fold-start-3 t)
-    (core-part-fold-end-3 t) (core-sub-fold-4 t) (core-part-fold-start-4 t) (core-part-fold-end-4 t) (core-add-fold t)
-    (core-add-fold-2 t) (core-fold-requires-2 t) (core-joined-requires t) (core-same-length-3 t) (core-returns-4 t))
-    λ t. fold-lts.spec (fold-calls t) (fold-at t) fold.Post
-    (fold-chain-requires t) (fold-mul-from t) (fold-mul-start t) (fold-sub-core t) (fold-part-core-start t)
-    (fold-part-core-end t) (fold-sub-core-2 t) (fold-part-core-start-2 t) (fold-part-core-end-2 t) (fold-add-core t)
-    (fold-add-core-2 t) (fold-core-requires t) (fold-wrapped-requires t) (fold-same-length t) (fold-returns t)
++core+fold-spec = close core-measure fold-measure (λ t. core-meets t) (λ t. fold-meets t)

@@ -2,19 +2,21 @@
 -- Assumes nothing.
 use native.Mathlib.Omega.{arith}
 use Rattle.literals.proofs.Literals.{literal-long}
-use Rattle.walks.proofs.LeafLaws.{some-literal-kept, puttable, gives-changed, marked}
+use Rattle.walks.proofs.LeafLaws.{puttable, gives-changed, marked}
 use borrow.Author.Needs.{needs}
 use Rattle.walks.proofs.literal.kept.Statement.{statement}
 use Rattle.walks.proofs.literal.kept.Tie as tie
 
 natural-requires : tie.Need-natural-requires
-natural-requires c κs = omega (arith, literal-long (some-literal-kept (c .before .before .pre)))
+natural-requires c κs = omega (arith, literal-long (c .before .before .pre .some))
 
 divisor-requires : tie.Need-divisor-requires
 divisor-requires c κs = search needs
 
 sum-requires : tie.Need-sum-requires
-sum-requires c κs = search needs
+sum-requires c κs =
+    let some = c .before .before .before .before .pre in
+    record { literal = some .some; usable = some .usable; within = some .within }
 
 slice-aggregate-put : tie.Need-slice-aggregate-put
 slice-aggregate-put c = search needs
@@ -25,8 +27,8 @@ put-requires c κs =
     let divisor = sum .before in
     let kind = divisor .before in
     let some = kind .before .before .before .pre in
-    puttable some (kind .natural .ensures .1) (divisor .divisor .ensures _ _ _ (some .at))
-    (sum .sum .ensures _ _ _ (some .at))
+    puttable some (kind .natural .ensures .1) (divisor .divisor .ensures _ _ _ (some .some .at))
+    (sum .sum .ensures _ _ _ (some .some .at))
 
 same-length : tie.Need-same-length
 same-length c = search needs

@@ -19,7 +19,7 @@ kept-requires c κs =
     let none = c .before in
     let far = none .before .before in
     let some = far .before .before .before .pre in
-    some-kept some (far .far .ensures _ _ _ (some .at)) (none .enum-told .given .1)
+    some-kept some (far .far .ensures _ _ _ (some .some .at)) (none .enum-told .given .1)
 
 returns : tie.Need-returns
 returns c = λ n t s ds l built.

@@ -8,47 +8,43 @@ use borrow.Author.Needs.{needs}
 use borrow.Fn.Kinds.{In}
 use borrow.Fn.PlainCycle.{Measures, is, falls, and}
 use lib.ListN.{length}
-use Rattle.rules.specs.Calls.{words}
-use Rattle.walks.proofs.PairLaws.{same-words}
+use Rattle.walks.proofs.PartLaws.{
+  first-word,
+  entry-there,
+  left-shorter,
+  right-asks,
+  body-there,
+  next-node,
+  next-place,
+  entries-there,
+  bodies-there,
+  right-shorter,
+  chain-asks,
+  nodes-there,
+  words-there,
+  inner-node,
+  inner-place,
+}
 use Rattle.walks.proofs.NormalLaws.{
+  Call,
   Kinded,
   JoinKind,
-  RightFound,
   RightAnswered,
   RightMade,
   LeftAnswered,
-  some-words,
-  entry-there,
-  few-nodes,
-  few-places,
-  entries-behind,
+  rule-there,
   constant-made,
   literal-asks,
   literal-made,
-  body-there,
-  right-asks,
-  entries-there,
-  bodies-there,
-  entries-right,
-  right-call,
+  join-there,
+  right-side-asks,
   join-right-over,
-  left-call,
+  left-side-asks,
   join-left-over,
   both-asks,
   join-both,
 }
-use Rattle.walks.proofs.NotsLaws.{
-  NotsFound,
-  chain-asks,
-  run-entries,
-  run-words,
-  inner-node,
-  inner-place,
-  run-shorter,
-  inner-asks,
-  odd-made,
-  even-made,
-}
+use Rattle.walks.proofs.NotsLaws.{NotsFound, run-there, run-shorter, inner-asks, odd-made, even-made}
 use Rattle.folding.proofs.answers.after.Reads as after-reads
 use Rattle.tables.proofs.sides.right.Reads as right-reads
 use Rattle.tables.proofs.words.natural.Reads as natural-reads
@@ -107,7 +103,16 @@ plain-calls t = (
 )
 
 module _ (t : ℕ) where
-  -- the ways back: to the start, to where the kind is read, to where the right side is found, answered, and put
+  -- the call, and the ways back: to the start, to where the kind is read, to where the right side is found, answered,
+  -- and put
+  abbrev plain-call : plain-lts.Start (plain-calls t) (plain-at t) plain.Post → Call
+  plain-call c = let a = c .args in record {
+    part = record { entries = a .entries .now; bodies = a .bodies .now; node = a .node; place = a .place };
+    setting = a .x;
+    out = a .out .now;
+    state = a .b;
+  }
+
   abbrev plain-start : plain-lts.After-natural (plain-calls t) (plain-at t) plain.Post
       → plain-lts.Start (plain-calls t) (plain-at t) plain.Post
   plain-start c = c .before .before .before .before
@@ -130,9 +135,7 @@ module _ (t : ℕ) where
 
   -- the kind is read
   plain-kinded : (c : plain-lts.After-natural (plain-calls t) (plain-at t) plain.Post)
-      → let a = plain-start c .args in
-      Kinded (a .entries .now) (a .bodies .now) (a .node) (a .place) (a .x) (words (a .out .now)) (a .b)
-      (c .natural .result)
+      → Kinded (plain-call (plain-start c)) (c .natural .result)
   plain-kinded c = record { some = plain-start c .pre .1; first = c .natural .ensures .1 }
 
   -- it is a not's, and the run of nots is found; its number is odd or even
@@ -149,38 +152,28 @@ module _ (t : ℕ) where
   plain-even c = c .before .before .before .before .before .before
 
   plain-nots : (c : plain-lts.After-chain (plain-calls t) (plain-at t) plain.Post)
-      → let read = plain-not c in
-      let a = plain-start read .args in
-      NotsFound (a .entries .now) (a .bodies .now) (a .node) (a .place) (a .x) (words (a .out .now)) (a .b)
-      (read .natural .result) (c .chain .result)
+      → let read = plain-not c in NotsFound (plain-call (plain-start read)) (read .natural .result) (c .chain .result)
   plain-nots c =
       record { kinded = plain-kinded (plain-not c); is-not = c .before .if2 .taken; found = c .chain .ensures }
 
   -- it is a join's
   plain-joined : (c : plain-lts.Else4 (plain-calls t) (plain-at t) plain.Post)
-      → let a = plain-start (plain-read c) .args in
-      JoinKind (a .entries .now) (a .bodies .now) (a .node) (a .place) (a .x) (words (a .out .now)) (a .b)
-      (plain-read c .natural .result)
+      → let read = plain-read c in JoinKind (plain-call (plain-start read)) (read .natural .result)
   plain-joined c =
       record { kinded = plain-kinded (plain-read c); low = c .before .before .if1 .left; high = c .if4 .left }
 
-  -- its right side is found
-  plain-found : (c : plain-lts.After-right (plain-calls t) (plain-at t) plain.Post)
-      → let read = plain-read (c .before) in
-      let a = plain-start read .args in
-      RightFound (a .entries .now) (a .bodies .now) (a .node) (a .place) (a .x) (words (a .out .now)) (a .b)
-      (read .natural .result) (c .right .result)
-  plain-found c = record { join = plain-joined (c .before); side = c .right .ensures }
-
-  -- and answered
+  -- its right side is answered
   plain-right : (c : plain-lts.After-plain2 (plain-calls t) (plain-at t) plain.Post)
       → let side = plain-side c in
       let read = plain-read (side .before) in
-      let a = plain-start read .args in
-      RightAnswered (a .entries .now) (a .bodies .now) (a .node) (a .place) (a .x) (words (a .out .now)) (a .b)
-      (read .natural .result) (side .right .result)
-      true (words (c .plain2 .last .1 .1 .1 .1 .1 .0)) (c .plain2 .result)
-  plain-right c = record { found = plain-found (plain-side c); answer = c .plain2 .ensures }
+      RightAnswered (plain-call (plain-start read)) (read .natural .result) (side .right .result) true
+      (c .plain2 .last .1 .1 .1 .1 .1 .0) (c .plain2 .result)
+  plain-right c = record {
+    join = plain-joined (plain-side c .before);
+    found = plain-side c .right .ensures;
+    answer = c .plain2 .ensures;
+    kept = c .plain2 .kept .1 .1 .1 .1 .1 .0;
+  }
 
   -- it is put
   plain-made : (c : plain-lts.After-after (plain-calls t) (plain-at t) plain.Post)
@@ -188,20 +181,17 @@ module _ (t : ℕ) where
       let right = plain-first put in
       let side = plain-side right in
       let read = plain-read (side .before) in
-      let a = plain-start read .args in
-      RightMade (a .entries .now) (a .bodies .now) (a .node) (a .place) (a .x) (words (a .out .now)) (a .b)
-      (read .natural .result) (side .right .result)
-      true (words (right .plain2 .last .1 .1 .1 .1 .1 .0)) (right .plain2 .result)
+      RightMade (plain-call (plain-start read)) (read .natural .result) (side .right .result) true
+      (right .plain2 .last .1 .1 .1 .1 .1 .0) (right .plain2 .result)
       (put .before .right2 .given .0 .0) (c .after .result)
   plain-made c =
       let put = plain-put c in
-      let right = plain-first put in
-      record {
-        right = plain-right right;
-        made = put .before .right2 .given .1;
-        state = c .after .ensures;
-        kept = same-words _ _ (right .plain2 .kept .1 .1 .1 .1 .1 .0);
-      }
+      record { right = plain-right (plain-first put); made = put .before .right2 .given .1; state = c .after .ensures }
+
+  plain-join : (c : plain-lts.After-known-told (plain-calls t) (plain-at t) plain.Post)
+      → let read = plain-read (plain-side (plain-first c) .before) in
+      JoinKind (plain-call (plain-start read)) (read .natural .result)
+  plain-join c = plain-joined (plain-side (plain-first c) .before)
 
   -- and the left side is answered
   plain-left : (c : plain-lts.After-plain3 (plain-calls t) (plain-at t) plain.Post)
@@ -209,215 +199,112 @@ module _ (t : ℕ) where
       let right = plain-first put in
       let side = plain-side right in
       let read = plain-read (side .before) in
-      let a = plain-start read .args in
-      LeftAnswered (a .entries .now) (a .bodies .now) (a .node) (a .place) (a .x) (words (a .out .now)) (a .b)
-      (read .natural .result) (side .right .result)
-      true (words (right .plain2 .last .1 .1 .1 .1 .1 .0)) (right .plain2 .result)
+      LeftAnswered (plain-call (plain-start read)) (read .natural .result) (side .right .result) true
+      (right .plain2 .last .1 .1 .1 .1 .1 .0) (right .plain2 .result)
       (put .before .right2 .given .0 .0) (c .before .after .result)
-      (words (c .plain3 .last .1 .1 .1 .1 .1 .0)) (c .plain3 .result)
-  plain-left c = record { right = plain-made (c .before); answer = c .plain3 .ensures }
+      (c .plain3 .last .1 .1 .1 .1 .1 .0) (c .plain3 .result)
+  plain-left c = record {
+    right = plain-made (c .before);
+    answer = c .plain3 .ensures;
+    kept = c .plain3 .kept .1 .1 .1 .1 .1 .0;
+  }
 
-  plain-natural-requires : plain-lts.Need-natural-requires (plain-calls t) (plain-at t) plain.Post
-  plain-natural-requires c κs = some-words (c .before .before .before .pre .1) .1
-
-  plain-returns : plain-lts.Need-returns (plain-calls t) (plain-at t) plain.Post
-  plain-returns c = constant-made (plain-kinded (c .before)) (c .if1 .taken) true
-
-  plain-chain-requires : plain-lts.Need-chain-requires (plain-calls t) (plain-at t) plain.Post
-  plain-chain-requires c κs = (chain-asks (plain-kinded (c .before .before)), omega arith)
-
-  plain-mul-from : plain-lts.Need-mul-from (plain-calls t) (plain-at t) plain.Post
-  plain-mul-from c = omega (arith, inner-node (plain-nots (c .before)))
-
-  plain-mul-start : plain-lts.Need-mul-start (plain-calls t) (plain-at t) plain.Post
-  plain-mul-start c = omega (arith, inner-place (plain-nots (c .before .before)))
-
-  plain-add-inner : plain-lts.Need-add-inner (plain-calls t) (plain-at t) plain.Post
-  plain-add-inner c = omega (arith, inner-node (plain-nots (c .before .before .before)))
-
-  plain-add-at : plain-lts.Need-add-at (plain-calls t) (plain-at t) plain.Post
-  plain-add-at c = omega (arith, inner-place (plain-nots (c .before .before .before .before)))
-
-  plain-sub-under : plain-lts.Need-sub-under (plain-calls t) (plain-at t) plain.Post
-  plain-sub-under c = run-entries (plain-nots (plain-odd c))
-
-  plain-part-under-start : plain-lts.Need-part-under-start (plain-calls t) (plain-at t) plain.Post
-  plain-part-under-start c = run-entries (plain-nots (plain-odd c))
-
-  plain-part-under-end : plain-lts.Need-part-under-end (plain-calls t) (plain-at t) plain.Post
-  plain-part-under-end c = search needs
-
-  plain-sub-under-2 : plain-lts.Need-sub-under-2 (plain-calls t) (plain-at t) plain.Post
-  plain-sub-under-2 c = run-words (plain-nots (plain-odd (c .before)))
-
-  plain-part-under-start-2 : plain-lts.Need-part-under-start-2 (plain-calls t) (plain-at t) plain.Post
-  plain-part-under-start-2 c = run-words (plain-nots (plain-odd (c .before)))
-
-  plain-part-under-end-2 : plain-lts.Need-part-under-end-2 (plain-calls t) (plain-at t) plain.Post
-  plain-part-under-end-2 c = search needs
-
-  plain-under-requires : plain-lts.Need-under-requires (plain-calls t) (plain-at t) plain.Post
-  plain-under-requires c κs =
-      let run = plain-odd (c .before .before .before) in
-      let nots = plain-nots run in
-      (omega (arith, plain-start (plain-not run) .pre .0, run-shorter nots), inner-asks nots)
-
-  plain-same-length : plain-lts.Need-same-length (plain-calls t) (plain-at t) plain.Post
-  plain-same-length c = search needs
-
-  plain-returns-2 : plain-lts.Need-returns-2 (plain-calls t) (plain-at t) plain.Post
-  plain-returns-2 c =
-      let answer = c .before .before in
+  -- what each step of the code asks, in its order
+  plain-meets : {M : Type 1} → plain-lts.Closed (plain-calls t) (plain-at t) plain.Post M
+  plain-meets = plain-lts.spec (plain-calls t) (plain-at t) plain.Post
+      -- the kind
+      (λ c κs. let s = c .before .before .before in first-word (plain-call s .part) (s .pre .1 .ready .at))
+      -- a constant
+      (λ c. constant-made (plain-kinded (c .before)) (c .if1 .taken) true)
+      -- a run of nots
+      (λ c κs. let read = c .before .before in
+      (chain-asks (plain-call (plain-start read) .part) (rule-there (plain-kinded read)), omega arith))
+      (λ c. omega (arith, inner-node (run-there (plain-nots (c .before)))))
+      (λ c. omega (arith, inner-place (run-there (plain-nots (c .before .before)))))
+      (λ c. omega (arith, inner-node (run-there (plain-nots (c .before .before .before)))))
+      (λ c. omega (arith, inner-place (run-there (plain-nots (c .before .before .before .before)))))
+      -- an odd one
+      (λ c. nodes-there (run-there (plain-nots (plain-odd c))))
+      (λ c. nodes-there (run-there (plain-nots (plain-odd c))))
+      (λ c. search needs)
+      (λ c. words-there (run-there (plain-nots (plain-odd (c .before)))))
+      (λ c. words-there (run-there (plain-nots (plain-odd (c .before)))))
+      (λ c. search needs)
+      (λ c κs. let run = plain-odd (c .before .before .before) in
+      let counted = plain-start (plain-not run) .pre .0 in
+      (omega (arith, counted, run-shorter (plain-nots run)), inner-asks (plain-nots run)))
+      (λ c. search needs)
+      (λ c. let answer = c .before .before in
       let test = answer .before .before .before .before in
-      odd-made (plain-nots (plain-odd test)) true _ _ (test .if3 .taken) (answer .under .ensures)
-
-  plain-sub-plain : plain-lts.Need-sub-plain (plain-calls t) (plain-at t) plain.Post
-  plain-sub-plain c = run-entries (plain-nots (plain-even c))
-
-  plain-part-plain-start : plain-lts.Need-part-plain-start (plain-calls t) (plain-at t) plain.Post
-  plain-part-plain-start c = run-entries (plain-nots (plain-even c))
-
-  plain-part-plain-end : plain-lts.Need-part-plain-end (plain-calls t) (plain-at t) plain.Post
-  plain-part-plain-end c = search needs
-
-  plain-sub-plain-2 : plain-lts.Need-sub-plain-2 (plain-calls t) (plain-at t) plain.Post
-  plain-sub-plain-2 c = run-words (plain-nots (plain-even (c .before)))
-
-  plain-part-plain-start-2 : plain-lts.Need-part-plain-start-2 (plain-calls t) (plain-at t) plain.Post
-  plain-part-plain-start-2 c = run-words (plain-nots (plain-even (c .before)))
-
-  plain-part-plain-end-2 : plain-lts.Need-part-plain-end-2 (plain-calls t) (plain-at t) plain.Post
-  plain-part-plain-end-2 c = search needs
-
-  plain-plain-requires : plain-lts.Need-plain-requires (plain-calls t) (plain-at t) plain.Post
-  plain-plain-requires c κs =
-      let run = plain-even (c .before .before .before) in
-      let nots = plain-nots run in
-      (omega (arith, plain-start (plain-not run) .pre .0, run-shorter nots), inner-asks nots)
-
-  plain-same-length-2 : plain-lts.Need-same-length-2 (plain-calls t) (plain-at t) plain.Post
-  plain-same-length-2 c = search needs
-
-  plain-returns-3 : plain-lts.Need-returns-3 (plain-calls t) (plain-at t) plain.Post
-  plain-returns-3 c =
-      let answer = c .before .before in
+      odd-made (plain-nots (plain-odd test)) true _ _ (test .if3 .taken) (answer .under .ensures))
+      -- an even one
+      (λ c. nodes-there (run-there (plain-nots (plain-even c))))
+      (λ c. nodes-there (run-there (plain-nots (plain-even c))))
+      (λ c. search needs)
+      (λ c. words-there (run-there (plain-nots (plain-even (c .before)))))
+      (λ c. words-there (run-there (plain-nots (plain-even (c .before)))))
+      (λ c. search needs)
+      (λ c κs. let run = plain-even (c .before .before .before) in
+      let counted = plain-start (plain-not run) .pre .0 in
+      (omega (arith, counted, run-shorter (plain-nots run)), inner-asks (plain-nots run)))
+      (λ c. search needs)
+      (λ c. let answer = c .before .before in
       let test = answer .before .before .before .before in
-      even-made (plain-nots (plain-even test)) true _ _ (test .if3 .left) (answer .plain .ensures)
-
-  plain-literal-requires : plain-lts.Need-literal-requires (plain-calls t) (plain-at t) plain.Post
-  plain-literal-requires c κs =
-      let test = c .before in
-      literal-asks (plain-kinded (test .before .before .before)) (test .if4 .taken) (test .before .if2 .left)
-
-  plain-same-length-3 : plain-lts.Need-same-length-3 (plain-calls t) (plain-at t) plain.Post
-  plain-same-length-3 c = search needs
-
-  plain-returns-4 : plain-lts.Need-returns-4 (plain-calls t) (plain-at t) plain.Post
-  plain-returns-4 c =
-      let test = c .before .before .before .before in
-      let node = plain-kinded (test .before .before .before) in
-      literal-made node (test .if4 .taken) (test .before .if2 .left) true _ _ (c .before .before .literal .ensures)
-
-  plain-right-requires : plain-lts.Need-right-requires (plain-calls t) (plain-at t) plain.Post
-  plain-right-requires c κs = right-asks (plain-joined c)
-
-  plain-sub-plain-3 : plain-lts.Need-sub-plain-3 (plain-calls t) (plain-at t) plain.Post
-  plain-sub-plain-3 c = entries-there (plain-found c)
-
-  plain-part-plain-start-3 : plain-lts.Need-part-plain-start-3 (plain-calls t) (plain-at t) plain.Post
-  plain-part-plain-start-3 c = entries-there (plain-found c)
-
-  plain-part-plain-end-3 : plain-lts.Need-part-plain-end-3 (plain-calls t) (plain-at t) plain.Post
-  plain-part-plain-end-3 c = search needs
-
-  plain-sub-plain-4 : plain-lts.Need-sub-plain-4 (plain-calls t) (plain-at t) plain.Post
-  plain-sub-plain-4 c = bodies-there (plain-found (c .before))
-
-  plain-part-plain-start-4 : plain-lts.Need-part-plain-start-4 (plain-calls t) (plain-at t) plain.Post
-  plain-part-plain-start-4 c = bodies-there (plain-found (c .before))
-
-  plain-part-plain-end-4 : plain-lts.Need-part-plain-end-4 (plain-calls t) (plain-at t) plain.Post
-  plain-part-plain-end-4 c = search needs
-
-  plain-plain-requires-2 : plain-lts.Need-plain-requires-2 (plain-calls t) (plain-at t) plain.Post
-  plain-plain-requires-2 c κs =
-      let side = c .before .before .before in
-      let found = plain-found side in
-      (omega (arith, plain-start (plain-read (side .before)) .pre .0, entries-right found), right-call found)
-
-  plain-enum-known-right : plain-lts.Need-enum-known-right (plain-calls t) (plain-at t) plain.Post
-  plain-enum-known-right c = search needs
-
-  plain-enum-told : plain-lts.Need-enum-told (plain-calls t) (plain-at t) plain.Post
-  plain-enum-told c = search needs
-
-  plain-same-length-4 : plain-lts.Need-same-length-4 (plain-calls t) (plain-at t) plain.Post
-  plain-same-length-4 c = search needs
-
-  plain-returns-5 : plain-lts.Need-returns-5 (plain-calls t) (plain-at t) plain.Post
-  plain-returns-5 c = join-right-over (plain-right (c .before .before .before .before)) (c .enum-told .given .1)
-
-  plain-sub-plain-5 : plain-lts.Need-sub-plain-5 (plain-calls t) (plain-at t) plain.Post
-  plain-sub-plain-5 c = entry-there (plain-found (plain-side (plain-first c)) .join .kinded)
-
-  plain-part-plain-start-5 : plain-lts.Need-part-plain-start-5 (plain-calls t) (plain-at t) plain.Post
-  plain-part-plain-start-5 c = entry-there (plain-found (plain-side (plain-first c)) .join .kinded)
-
-  plain-part-plain-end-5 : plain-lts.Need-part-plain-end-5 (plain-calls t) (plain-at t) plain.Post
-  plain-part-plain-end-5 c = search needs
-
-  plain-sub-plain-6 : plain-lts.Need-sub-plain-6 (plain-calls t) (plain-at t) plain.Post
-  plain-sub-plain-6 c = body-there (plain-found (plain-side (plain-first (c .before))) .join)
-
-  plain-part-plain-start-6 : plain-lts.Need-part-plain-start-6 (plain-calls t) (plain-at t) plain.Post
-  plain-part-plain-start-6 c = body-there (plain-found (plain-side (plain-first (c .before))) .join)
-
-  plain-part-plain-end-6 : plain-lts.Need-part-plain-end-6 (plain-calls t) (plain-at t) plain.Post
-  plain-part-plain-end-6 c = search needs
-
-  plain-add-plain : plain-lts.Need-add-plain (plain-calls t) (plain-at t) plain.Post
-  plain-add-plain c =
-      omega (arith, few-nodes (plain-found (plain-side (plain-first (c .before .before))) .join .kinded))
-
-  plain-add-plain-2 : plain-lts.Need-add-plain-2 (plain-calls t) (plain-at t) plain.Post
-  plain-add-plain-2 c =
-      omega (arith, few-places (plain-found (plain-side (plain-first (c .before .before))) .join .kinded))
-
-  plain-after-requires : plain-lts.Need-after-requires (plain-calls t) (plain-at t) plain.Post
-  plain-after-requires c κs = search needs
-
-  plain-plain-requires-3 : plain-lts.Need-plain-requires-3 (plain-calls t) (plain-at t) plain.Post
-  plain-plain-requires-3 c κs =
-      let side = plain-side (plain-first (plain-put c)) in
-      let node = plain-found side .join .kinded in
-      (omega (arith, plain-start (plain-read (side .before)) .pre .0, entries-behind node), left-call (plain-made c))
-
-  plain-enum-known-left : plain-lts.Need-enum-known-left (plain-calls t) (plain-at t) plain.Post
-  plain-enum-known-left c = search needs
-
-  plain-enum-told-2 : plain-lts.Need-enum-told-2 (plain-calls t) (plain-at t) plain.Post
-  plain-enum-told-2 c = search needs
-
-  plain-same-length-5 : plain-lts.Need-same-length-5 (plain-calls t) (plain-at t) plain.Post
-  plain-same-length-5 c = search needs
-
-  plain-returns-6 : plain-lts.Need-returns-6 (plain-calls t) (plain-at t) plain.Post
-  plain-returns-6 c = join-left-over (plain-left (c .before .before .before .before)) (c .enum-told2 .given .1)
-
-  plain-both-requires : plain-lts.Need-both-requires (plain-calls t) (plain-at t) plain.Post
-  plain-both-requires c κs =
-      let put = c .before .before in
-      let left = put .before .before .before .before in
-      both-asks (plain-left left) _ (put .left .given .1) (same-words _ _ (left .plain3 .kept .1 .1 .1 .1 .1 .0))
-
-  plain-same-length-6 : plain-lts.Need-same-length-6 (plain-calls t) (plain-at t) plain.Post
-  plain-same-length-6 c = search needs
-
-  plain-returns-7 : plain-lts.Need-returns-7 (plain-calls t) (plain-at t) plain.Post
-  plain-returns-7 c =
-      let put = c .before .before .before .before .before in
-      let left = put .before .before .before .before in
-      join-both (plain-left left) _ (put .left .given .1) _ _ (c .before .before .both .ensures)
+      even-made (plain-nots (plain-even test)) true _ _ (test .if3 .left) (answer .plain .ensures))
+      -- a literal
+      (λ c κs. let test = c .before in
+      literal-asks (plain-kinded (test .before .before .before)) (test .if4 .taken) (test .before .if2 .left))
+      (λ c. search needs)
+      (λ c. let test = c .before .before .before .before in
+      literal-made (plain-kinded (test .before .before .before)) (test .if4 .taken) (test .before .if2 .left) true _ _
+      (c .before .before .literal .ensures))
+      -- a join: its right side is found
+      (λ c κs. right-asks (join-there (plain-joined c)))
+      (λ c. entries-there (join-there (plain-joined (c .before))) (c .right .ensures))
+      (λ c. entries-there (join-there (plain-joined (c .before))) (c .right .ensures))
+      (λ c. search needs)
+      (λ c. bodies-there (join-there (plain-joined (c .before .before))) (c .before .right .ensures))
+      (λ c. bodies-there (join-there (plain-joined (c .before .before))) (c .before .right .ensures))
+      (λ c. search needs)
+      -- and walked
+      (λ c κs. let side = c .before .before .before in
+      let join = plain-joined (side .before) in
+      let counted = plain-start (plain-read (side .before)) .pre .0 in (
+        omega (arith, counted, right-shorter (join-there join) (side .right .ensures)),
+        right-side-asks join (side .right .ensures),
+      ))
+      -- a number of it passes the limit
+      (λ c. search needs)
+      (λ c. search needs)
+      (λ c. search needs)
+      (λ c. join-right-over (plain-right (c .before .before .before .before)) (c .enum-told .given .1))
+      -- or its left side is walked
+      (λ c. entry-there _ (join-there (plain-join c) .whole))
+      (λ c. entry-there _ (join-there (plain-join c) .whole))
+      (λ c. search needs)
+      (λ c. body-there (join-there (plain-join (c .before))))
+      (λ c. body-there (join-there (plain-join (c .before))))
+      (λ c. search needs)
+      (λ c. omega (arith, next-node (join-there (plain-join (c .before .before)))))
+      (λ c. omega (arith, next-place (join-there (plain-join (c .before .before)))))
+      (λ c κs. search needs)
+      (λ c κs. let put = plain-put c in
+      let start = plain-start (plain-read (plain-side (plain-first put) .before)) in (
+        omega (arith, start .pre .0, left-shorter (plain-call start .part) (join-there (plain-join put) .whole)),
+        left-side-asks (plain-made c),
+      ))
+      -- a number of it passes the limit
+      (λ c. search needs)
+      (λ c. search needs)
+      (λ c. search needs)
+      (λ c. join-left-over (plain-left (c .before .before .before .before)) (c .enum-told2 .given .1))
+      -- or both are joined
+      (λ c κs. let put = c .before .before in
+      both-asks (plain-left (put .before .before .before .before)) (put .left .given .1))
+      (λ c. search needs)
+      (λ c. let put = c .before .before .before .before .before in
+      join-both (plain-left (put .before .before .before .before)) (put .left .given .1) _ _
+      (c .before .before .both .ensures))
 
 -- ---- the walk under a not
 
@@ -443,7 +330,16 @@ under-calls t = (
 )
 
 module _ (t : ℕ) where
-  -- the ways back: to the start, to where the kind is read, to where the right side is found, answered, and put
+  -- the call, and the ways back: to the start, to where the kind is read, to where the right side is found, answered,
+  -- and put
+  abbrev under-call : under-lts.Start (under-calls t) (under-at t) under.Post → Call
+  under-call c = let a = c .args in record {
+    part = record { entries = a .entries .now; bodies = a .bodies .now; node = a .node; place = a .place };
+    setting = a .x;
+    out = a .out .now;
+    state = a .b;
+  }
+
   abbrev under-start : under-lts.After-natural (under-calls t) (under-at t) under.Post
       → under-lts.Start (under-calls t) (under-at t) under.Post
   under-start c = c .before .before .before .before
@@ -466,9 +362,7 @@ module _ (t : ℕ) where
 
   -- the kind is read
   under-kinded : (c : under-lts.After-natural (under-calls t) (under-at t) under.Post)
-      → let a = under-start c .args in
-      Kinded (a .entries .now) (a .bodies .now) (a .node) (a .place) (a .x) (words (a .out .now)) (a .b)
-      (c .natural .result)
+      → Kinded (under-call (under-start c)) (c .natural .result)
   under-kinded c = record { some = under-start c .pre .1; first = c .natural .ensures .1 }
 
   -- it is a not's, and the run of nots is found; its number is odd or even
@@ -485,38 +379,28 @@ module _ (t : ℕ) where
   under-even c = c .before .before .before .before .before .before
 
   under-nots : (c : under-lts.After-chain (under-calls t) (under-at t) under.Post)
-      → let read = under-not c in
-      let a = under-start read .args in
-      NotsFound (a .entries .now) (a .bodies .now) (a .node) (a .place) (a .x) (words (a .out .now)) (a .b)
-      (read .natural .result) (c .chain .result)
+      → let read = under-not c in NotsFound (under-call (under-start read)) (read .natural .result) (c .chain .result)
   under-nots c =
       record { kinded = under-kinded (under-not c); is-not = c .before .if2 .taken; found = c .chain .ensures }
 
   -- it is a join's
   under-joined : (c : under-lts.Else4 (under-calls t) (under-at t) under.Post)
-      → let a = under-start (under-read c) .args in
-      JoinKind (a .entries .now) (a .bodies .now) (a .node) (a .place) (a .x) (words (a .out .now)) (a .b)
-      (under-read c .natural .result)
+      → let read = under-read c in JoinKind (under-call (under-start read)) (read .natural .result)
   under-joined c =
       record { kinded = under-kinded (under-read c); low = c .before .before .if1 .left; high = c .if4 .left }
 
-  -- its right side is found
-  under-found : (c : under-lts.After-right (under-calls t) (under-at t) under.Post)
-      → let read = under-read (c .before) in
-      let a = under-start read .args in
-      RightFound (a .entries .now) (a .bodies .now) (a .node) (a .place) (a .x) (words (a .out .now)) (a .b)
-      (read .natural .result) (c .right .result)
-  under-found c = record { join = under-joined (c .before); side = c .right .ensures }
-
-  -- and answered
+  -- its right side is answered
   under-right : (c : under-lts.After-under2 (under-calls t) (under-at t) under.Post)
       → let side = under-side c in
       let read = under-read (side .before) in
-      let a = under-start read .args in
-      RightAnswered (a .entries .now) (a .bodies .now) (a .node) (a .place) (a .x) (words (a .out .now)) (a .b)
-      (read .natural .result) (side .right .result)
-      false (words (c .under2 .last .1 .1 .1 .1 .1 .0)) (c .under2 .result)
-  under-right c = record { found = under-found (under-side c); answer = c .under2 .ensures }
+      RightAnswered (under-call (under-start read)) (read .natural .result) (side .right .result) false
+      (c .under2 .last .1 .1 .1 .1 .1 .0) (c .under2 .result)
+  under-right c = record {
+    join = under-joined (under-side c .before);
+    found = under-side c .right .ensures;
+    answer = c .under2 .ensures;
+    kept = c .under2 .kept .1 .1 .1 .1 .1 .0;
+  }
 
   -- it is put
   under-made : (c : under-lts.After-after (under-calls t) (under-at t) under.Post)
@@ -524,20 +408,17 @@ module _ (t : ℕ) where
       let right = under-first put in
       let side = under-side right in
       let read = under-read (side .before) in
-      let a = under-start read .args in
-      RightMade (a .entries .now) (a .bodies .now) (a .node) (a .place) (a .x) (words (a .out .now)) (a .b)
-      (read .natural .result) (side .right .result)
-      false (words (right .under2 .last .1 .1 .1 .1 .1 .0)) (right .under2 .result)
+      RightMade (under-call (under-start read)) (read .natural .result) (side .right .result) false
+      (right .under2 .last .1 .1 .1 .1 .1 .0) (right .under2 .result)
       (put .before .right2 .given .0 .0) (c .after .result)
   under-made c =
       let put = under-put c in
-      let right = under-first put in
-      record {
-        right = under-right right;
-        made = put .before .right2 .given .1;
-        state = c .after .ensures;
-        kept = same-words _ _ (right .under2 .kept .1 .1 .1 .1 .1 .0);
-      }
+      record { right = under-right (under-first put); made = put .before .right2 .given .1; state = c .after .ensures }
+
+  under-join : (c : under-lts.After-known-told (under-calls t) (under-at t) under.Post)
+      → let read = under-read (under-side (under-first c) .before) in
+      JoinKind (under-call (under-start read)) (read .natural .result)
+  under-join c = under-joined (under-side (under-first c) .before)
 
   -- and the left side is answered
   under-left : (c : under-lts.After-under3 (under-calls t) (under-at t) under.Post)
@@ -545,244 +426,112 @@ module _ (t : ℕ) where
       let right = under-first put in
       let side = under-side right in
       let read = under-read (side .before) in
-      let a = under-start read .args in
-      LeftAnswered (a .entries .now) (a .bodies .now) (a .node) (a .place) (a .x) (words (a .out .now)) (a .b)
-      (read .natural .result) (side .right .result)
-      false (words (right .under2 .last .1 .1 .1 .1 .1 .0)) (right .under2 .result)
+      LeftAnswered (under-call (under-start read)) (read .natural .result) (side .right .result) false
+      (right .under2 .last .1 .1 .1 .1 .1 .0) (right .under2 .result)
       (put .before .right2 .given .0 .0) (c .before .after .result)
-      (words (c .under3 .last .1 .1 .1 .1 .1 .0)) (c .under3 .result)
-  under-left c = record { right = under-made (c .before); answer = c .under3 .ensures }
+      (c .under3 .last .1 .1 .1 .1 .1 .0) (c .under3 .result)
+  under-left c = record {
+    right = under-made (c .before);
+    answer = c .under3 .ensures;
+    kept = c .under3 .kept .1 .1 .1 .1 .1 .0;
+  }
 
-  under-natural-requires : under-lts.Need-natural-requires (under-calls t) (under-at t) under.Post
-  under-natural-requires c κs = some-words (c .before .before .before .pre .1) .1
-
-  under-returns : under-lts.Need-returns (under-calls t) (under-at t) under.Post
-  under-returns c = constant-made (under-kinded (c .before)) (c .if1 .taken) false
-
-  under-chain-requires : under-lts.Need-chain-requires (under-calls t) (under-at t) under.Post
-  under-chain-requires c κs = (chain-asks (under-kinded (c .before .before)), omega arith)
-
-  under-mul-from : under-lts.Need-mul-from (under-calls t) (under-at t) under.Post
-  under-mul-from c = omega (arith, inner-node (under-nots (c .before)))
-
-  under-mul-start : under-lts.Need-mul-start (under-calls t) (under-at t) under.Post
-  under-mul-start c = omega (arith, inner-place (under-nots (c .before .before)))
-
-  under-add-inner : under-lts.Need-add-inner (under-calls t) (under-at t) under.Post
-  under-add-inner c = omega (arith, inner-node (under-nots (c .before .before .before)))
-
-  under-add-at : under-lts.Need-add-at (under-calls t) (under-at t) under.Post
-  under-add-at c = omega (arith, inner-place (under-nots (c .before .before .before .before)))
-
-  under-sub-plain : under-lts.Need-sub-plain (under-calls t) (under-at t) under.Post
-  under-sub-plain c = run-entries (under-nots (under-odd c))
-
-  under-part-plain-start : under-lts.Need-part-plain-start (under-calls t) (under-at t) under.Post
-  under-part-plain-start c = run-entries (under-nots (under-odd c))
-
-  under-part-plain-end : under-lts.Need-part-plain-end (under-calls t) (under-at t) under.Post
-  under-part-plain-end c = search needs
-
-  under-sub-plain-2 : under-lts.Need-sub-plain-2 (under-calls t) (under-at t) under.Post
-  under-sub-plain-2 c = run-words (under-nots (under-odd (c .before)))
-
-  under-part-plain-start-2 : under-lts.Need-part-plain-start-2 (under-calls t) (under-at t) under.Post
-  under-part-plain-start-2 c = run-words (under-nots (under-odd (c .before)))
-
-  under-part-plain-end-2 : under-lts.Need-part-plain-end-2 (under-calls t) (under-at t) under.Post
-  under-part-plain-end-2 c = search needs
-
-  under-plain-requires : under-lts.Need-plain-requires (under-calls t) (under-at t) under.Post
-  under-plain-requires c κs =
-      let run = under-odd (c .before .before .before) in
-      let nots = under-nots run in
-      (omega (arith, under-start (under-not run) .pre .0, run-shorter nots), inner-asks nots)
-
-  under-same-length : under-lts.Need-same-length (under-calls t) (under-at t) under.Post
-  under-same-length c = search needs
-
-  under-returns-2 : under-lts.Need-returns-2 (under-calls t) (under-at t) under.Post
-  under-returns-2 c =
-      let answer = c .before .before in
+  -- what each step of the code asks, in its order
+  under-meets : {M : Type 1} → under-lts.Closed (under-calls t) (under-at t) under.Post M
+  under-meets = under-lts.spec (under-calls t) (under-at t) under.Post
+      -- the kind
+      (λ c κs. let s = c .before .before .before in first-word (under-call s .part) (s .pre .1 .ready .at))
+      -- a constant
+      (λ c. constant-made (under-kinded (c .before)) (c .if1 .taken) false)
+      -- a run of nots
+      (λ c κs. let read = c .before .before in
+      (chain-asks (under-call (under-start read) .part) (rule-there (under-kinded read)), omega arith))
+      (λ c. omega (arith, inner-node (run-there (under-nots (c .before)))))
+      (λ c. omega (arith, inner-place (run-there (under-nots (c .before .before)))))
+      (λ c. omega (arith, inner-node (run-there (under-nots (c .before .before .before)))))
+      (λ c. omega (arith, inner-place (run-there (under-nots (c .before .before .before .before)))))
+      -- an odd one
+      (λ c. nodes-there (run-there (under-nots (under-odd c))))
+      (λ c. nodes-there (run-there (under-nots (under-odd c))))
+      (λ c. search needs)
+      (λ c. words-there (run-there (under-nots (under-odd (c .before)))))
+      (λ c. words-there (run-there (under-nots (under-odd (c .before)))))
+      (λ c. search needs)
+      (λ c κs. let run = under-odd (c .before .before .before) in
+      let counted = under-start (under-not run) .pre .0 in
+      (omega (arith, counted, run-shorter (under-nots run)), inner-asks (under-nots run)))
+      (λ c. search needs)
+      (λ c. let answer = c .before .before in
       let test = answer .before .before .before .before in
-      odd-made (under-nots (under-odd test)) false _ _ (test .if3 .taken) (answer .plain .ensures)
-
-  under-sub-under : under-lts.Need-sub-under (under-calls t) (under-at t) under.Post
-  under-sub-under c = run-entries (under-nots (under-even c))
-
-  under-part-under-start : under-lts.Need-part-under-start (under-calls t) (under-at t) under.Post
-  under-part-under-start c = run-entries (under-nots (under-even c))
-
-  under-part-under-end : under-lts.Need-part-under-end (under-calls t) (under-at t) under.Post
-  under-part-under-end c = search needs
-
-  under-sub-under-2 : under-lts.Need-sub-under-2 (under-calls t) (under-at t) under.Post
-  under-sub-under-2 c = run-words (under-nots (under-even (c .before)))
-
-  under-part-under-start-2 : under-lts.Need-part-under-start-2 (under-calls t) (under-at t) under.Post
-  under-part-under-start-2 c = run-words (under-nots (under-even (c .before)))
-
-  under-part-under-end-2 : under-lts.Need-part-under-end-2 (under-calls t) (under-at t) under.Post
-  under-part-under-end-2 c = search needs
-
-  under-under-requires : under-lts.Need-under-requires (under-calls t) (under-at t) under.Post
-  under-under-requires c κs =
-      let run = under-even (c .before .before .before) in
-      let nots = under-nots run in
-      (omega (arith, under-start (under-not run) .pre .0, run-shorter nots), inner-asks nots)
-
-  under-same-length-2 : under-lts.Need-same-length-2 (under-calls t) (under-at t) under.Post
-  under-same-length-2 c = search needs
-
-  under-returns-3 : under-lts.Need-returns-3 (under-calls t) (under-at t) under.Post
-  under-returns-3 c =
-      let answer = c .before .before in
+      odd-made (under-nots (under-odd test)) false _ _ (test .if3 .taken) (answer .plain .ensures))
+      -- an even one
+      (λ c. nodes-there (run-there (under-nots (under-even c))))
+      (λ c. nodes-there (run-there (under-nots (under-even c))))
+      (λ c. search needs)
+      (λ c. words-there (run-there (under-nots (under-even (c .before)))))
+      (λ c. words-there (run-there (under-nots (under-even (c .before)))))
+      (λ c. search needs)
+      (λ c κs. let run = under-even (c .before .before .before) in
+      let counted = under-start (under-not run) .pre .0 in
+      (omega (arith, counted, run-shorter (under-nots run)), inner-asks (under-nots run)))
+      (λ c. search needs)
+      (λ c. let answer = c .before .before in
       let test = answer .before .before .before .before in
-      even-made (under-nots (under-even test)) false _ _ (test .if3 .left) (answer .under .ensures)
-
-  under-literal-requires : under-lts.Need-literal-requires (under-calls t) (under-at t) under.Post
-  under-literal-requires c κs =
-      let test = c .before in
-      literal-asks (under-kinded (test .before .before .before)) (test .if4 .taken) (test .before .if2 .left)
-
-  under-same-length-3 : under-lts.Need-same-length-3 (under-calls t) (under-at t) under.Post
-  under-same-length-3 c = search needs
-
-  under-returns-4 : under-lts.Need-returns-4 (under-calls t) (under-at t) under.Post
-  under-returns-4 c =
-      let test = c .before .before .before .before in
-      let node = under-kinded (test .before .before .before) in
-      literal-made node (test .if4 .taken) (test .before .if2 .left) false _ _ (c .before .before .literal .ensures)
-
-  under-right-requires : under-lts.Need-right-requires (under-calls t) (under-at t) under.Post
-  under-right-requires c κs = right-asks (under-joined c)
-
-  under-sub-under-3 : under-lts.Need-sub-under-3 (under-calls t) (under-at t) under.Post
-  under-sub-under-3 c = entries-there (under-found c)
-
-  under-part-under-start-3 : under-lts.Need-part-under-start-3 (under-calls t) (under-at t) under.Post
-  under-part-under-start-3 c = entries-there (under-found c)
-
-  under-part-under-end-3 : under-lts.Need-part-under-end-3 (under-calls t) (under-at t) under.Post
-  under-part-under-end-3 c = search needs
-
-  under-sub-under-4 : under-lts.Need-sub-under-4 (under-calls t) (under-at t) under.Post
-  under-sub-under-4 c = bodies-there (under-found (c .before))
-
-  under-part-under-start-4 : under-lts.Need-part-under-start-4 (under-calls t) (under-at t) under.Post
-  under-part-under-start-4 c = bodies-there (under-found (c .before))
-
-  under-part-under-end-4 : under-lts.Need-part-under-end-4 (under-calls t) (under-at t) under.Post
-  under-part-under-end-4 c = search needs
-
-  under-under-requires-2 : under-lts.Need-under-requires-2 (under-calls t) (under-at t) under.Post
-  under-under-requires-2 c κs =
-      let side = c .before .before .before in
-      let found = under-found side in
-      (omega (arith, under-start (under-read (side .before)) .pre .0, entries-right found), right-call found)
-
-  under-enum-known-right : under-lts.Need-enum-known-right (under-calls t) (under-at t) under.Post
-  under-enum-known-right c = search needs
-
-  under-enum-told : under-lts.Need-enum-told (under-calls t) (under-at t) under.Post
-  under-enum-told c = search needs
-
-  under-same-length-4 : under-lts.Need-same-length-4 (under-calls t) (under-at t) under.Post
-  under-same-length-4 c = search needs
-
-  under-returns-5 : under-lts.Need-returns-5 (under-calls t) (under-at t) under.Post
-  under-returns-5 c = join-right-over (under-right (c .before .before .before .before)) (c .enum-told .given .1)
-
-  under-sub-under-5 : under-lts.Need-sub-under-5 (under-calls t) (under-at t) under.Post
-  under-sub-under-5 c = entry-there (under-found (under-side (under-first c)) .join .kinded)
-
-  under-part-under-start-5 : under-lts.Need-part-under-start-5 (under-calls t) (under-at t) under.Post
-  under-part-under-start-5 c = entry-there (under-found (under-side (under-first c)) .join .kinded)
-
-  under-part-under-end-5 : under-lts.Need-part-under-end-5 (under-calls t) (under-at t) under.Post
-  under-part-under-end-5 c = search needs
-
-  under-sub-under-6 : under-lts.Need-sub-under-6 (under-calls t) (under-at t) under.Post
-  under-sub-under-6 c = body-there (under-found (under-side (under-first (c .before))) .join)
-
-  under-part-under-start-6 : under-lts.Need-part-under-start-6 (under-calls t) (under-at t) under.Post
-  under-part-under-start-6 c = body-there (under-found (under-side (under-first (c .before))) .join)
-
-  under-part-under-end-6 : under-lts.Need-part-under-end-6 (under-calls t) (under-at t) under.Post
-  under-part-under-end-6 c = search needs
-
-  under-add-under : under-lts.Need-add-under (under-calls t) (under-at t) under.Post
-  under-add-under c =
-      omega (arith, few-nodes (under-found (under-side (under-first (c .before .before))) .join .kinded))
-
-  under-add-under-2 : under-lts.Need-add-under-2 (under-calls t) (under-at t) under.Post
-  under-add-under-2 c =
-      omega (arith, few-places (under-found (under-side (under-first (c .before .before))) .join .kinded))
-
-  under-after-requires : under-lts.Need-after-requires (under-calls t) (under-at t) under.Post
-  under-after-requires c κs = search needs
-
-  under-under-requires-3 : under-lts.Need-under-requires-3 (under-calls t) (under-at t) under.Post
-  under-under-requires-3 c κs =
-      let side = under-side (under-first (under-put c)) in
-      let node = under-found side .join .kinded in
-      (omega (arith, under-start (under-read (side .before)) .pre .0, entries-behind node), left-call (under-made c))
-
-  under-enum-known-left : under-lts.Need-enum-known-left (under-calls t) (under-at t) under.Post
-  under-enum-known-left c = search needs
-
-  under-enum-told-2 : under-lts.Need-enum-told-2 (under-calls t) (under-at t) under.Post
-  under-enum-told-2 c = search needs
-
-  under-same-length-5 : under-lts.Need-same-length-5 (under-calls t) (under-at t) under.Post
-  under-same-length-5 c = search needs
-
-  under-returns-6 : under-lts.Need-returns-6 (under-calls t) (under-at t) under.Post
-  under-returns-6 c = join-left-over (under-left (c .before .before .before .before)) (c .enum-told2 .given .1)
-
-  under-both-requires : under-lts.Need-both-requires (under-calls t) (under-at t) under.Post
-  under-both-requires c κs =
-      let put = c .before .before in
-      let left = put .before .before .before .before in
-      both-asks (under-left left) _ (put .left .given .1) (same-words _ _ (left .under3 .kept .1 .1 .1 .1 .1 .0))
-
-  under-same-length-6 : under-lts.Need-same-length-6 (under-calls t) (under-at t) under.Post
-  under-same-length-6 c = search needs
-
-  under-returns-7 : under-lts.Need-returns-7 (under-calls t) (under-at t) under.Post
-  under-returns-7 c =
-      let put = c .before .before .before .before .before in
-      let left = put .before .before .before .before in
-      join-both (under-left left) _ (put .left .given .1) _ _ (c .before .before .both .ensures)
+      even-made (under-nots (under-even test)) false _ _ (test .if3 .left) (answer .under .ensures))
+      -- a literal
+      (λ c κs. let test = c .before in
+      literal-asks (under-kinded (test .before .before .before)) (test .if4 .taken) (test .before .if2 .left))
+      (λ c. search needs)
+      (λ c. let test = c .before .before .before .before in
+      literal-made (under-kinded (test .before .before .before)) (test .if4 .taken) (test .before .if2 .left) false _ _
+      (c .before .before .literal .ensures))
+      -- a join: its right side is found
+      (λ c κs. right-asks (join-there (under-joined c)))
+      (λ c. entries-there (join-there (under-joined (c .before))) (c .right .ensures))
+      (λ c. entries-there (join-there (under-joined (c .before))) (c .right .ensures))
+      (λ c. search needs)
+      (λ c. bodies-there (join-there (under-joined (c .before .before))) (c .before .right .ensures))
+      (λ c. bodies-there (join-there (under-joined (c .before .before))) (c .before .right .ensures))
+      (λ c. search needs)
+      -- and walked
+      (λ c κs. let side = c .before .before .before in
+      let join = under-joined (side .before) in
+      let counted = under-start (under-read (side .before)) .pre .0 in (
+        omega (arith, counted, right-shorter (join-there join) (side .right .ensures)),
+        right-side-asks join (side .right .ensures),
+      ))
+      -- a number of it passes the limit
+      (λ c. search needs)
+      (λ c. search needs)
+      (λ c. search needs)
+      (λ c. join-right-over (under-right (c .before .before .before .before)) (c .enum-told .given .1))
+      -- or its left side is walked
+      (λ c. entry-there _ (join-there (under-join c) .whole))
+      (λ c. entry-there _ (join-there (under-join c) .whole))
+      (λ c. search needs)
+      (λ c. body-there (join-there (under-join (c .before))))
+      (λ c. body-there (join-there (under-join (c .before))))
+      (λ c. search needs)
+      (λ c. omega (arith, next-node (join-there (under-join (c .before .before)))))
+      (λ c. omega (arith, next-place (join-there (under-join (c .before .before)))))
+      (λ c κs. search needs)
+      (λ c κs. let put = under-put c in
+      let start = under-start (under-read (under-side (under-first put) .before)) in (
+        omega (arith, start .pre .0, left-shorter (under-call start .part) (join-there (under-join put) .whole)),
+        left-side-asks (under-made c),
+      ))
+      -- a number of it passes the limit
+      (λ c. search needs)
+      (λ c. search needs)
+      (λ c. search needs)
+      (λ c. join-left-over (under-left (c .before .before .before .before)) (c .enum-told2 .given .1))
+      -- or both are joined
+      (λ c κs. let put = c .before .before in
+      both-asks (under-left (put .before .before .before .before)) (put .left .given .1))
+      (λ c. search needs)
+      (λ c. let put = c .before .before .before .before .before in
+      join-both (under-left (put .before .before .before .before)) (put .left .given .1) _ _
+      (c .before .before .both .ensures))
 
 pub +plain+under-spec : {M : Type 1} → statement M
-+plain+under-spec =
-    close plain-measure under-measure
-    (λ t. plain-lts.spec (plain-calls t) (plain-at t) plain.Post
-    (plain-natural-requires t) (plain-returns t) (plain-chain-requires t) (plain-mul-from t) (plain-mul-start t)
-    (plain-add-inner t) (plain-add-at t) (plain-sub-under t) (plain-part-under-start t) (plain-part-under-end t)
-    (plain-sub-under-2 t) (plain-part-under-start-2 t) (plain-part-under-end-2 t) (plain-under-requires t)
-    (plain-same-length t) (plain-returns-2 t) (plain-sub-plain t) (plain-part-plain-start t) (plain-part-plain-end t)
-    (plain-sub-plain-2 t) (plain-part-plain-start-2 t) (plain-part-plain-end-2 t) (plain-plain-requires t)
-    (plain-same-length-2 t) (plain-returns-3 t) (plain-literal-requires t) (plain-same-length-3 t) (plain-returns-4 t)
-    (plain-right-requires t) (plain-sub-plain-3 t) (plain-part-plain-start-3 t) (plain-part-plain-end-3 t)
-    (plain-sub-plain-4 t) (plain-part-plain-start-4 t) (plain-part-plain-end-4 t) (plain-plain-requires-2 t)
-    (plain-enum-known-right t) (plain-enum-told t) (plain-same-length-4 t) (plain-returns-5 t) (plain-sub-plain-5 t)
-    (plain-part-plain-start-5 t) (plain-part-plain-end-5 t) (plain-sub-plain-6 t) (plain-part-plain-start-6 t)
-    (plain-part-plain-end-6 t) (plain-add-plain t) (plain-add-plain-2 t) (plain-after-requires t)
-    (plain-plain-requires-3 t) (plain-enum-known-left t) (plain-enum-told-2 t) (plain-same-length-5 t)
-    (plain-returns-6 t) (plain-both-requires t) (plain-same-length-6 t) (plain-returns-7 t))
-    (λ t. under-lts.spec (under-calls t) (under-at t) under.Post
-    (under-natural-requires t) (under-returns t) (under-chain-requires t) (under-mul-from t) (under-mul-start t)
-    (under-add-inner t) (under-add-at t) (under-sub-plain t) (under-part-plain-start t) (under-part-plain-end t)
-    (under-sub-plain-2 t) (under-part-plain-start-2 t) (under-part-plain-end-2 t) (under-plain-requires t)
-    (under-same-length t) (under-returns-2 t) (under-sub-under t) (under-part-under-start t) (under-part-under-end t)
-    (under-sub-under-2 t) (under-part-under-start-2 t) (under-part-under-end-2 t) (under-under-requires t)
-    (under-same-length-2 t) (under-returns-3 t) (under-literal-requires t) (under-same-length-3 t) (under-returns-4 t)
-    (under-right-requires t) (under-sub-under-3 t) (under-part-under-start-3 t) (under-part-under-end-3 t)
-    (under-sub-under-4 t) (under-part-under-start-4 t) (under-part-under-end-4 t) (under-under-requires-2 t)
-    (under-enum-known-right t) (under-enum-told t) (under-same-length-4 t) (under-returns-5 t) (under-sub-under-5 t)
-    (under-part-under-start-5 t) (under-part-under-end-5 t) (under-sub-under-6 t) (under-part-under-start-6 t)
-    (under-part-under-end-6 t) (under-add-under t) (under-add-under-2 t) (under-after-requires t)
-    (under-under-requires-3 t) (under-enum-known-left t) (under-enum-told-2 t) (under-same-length-5 t)
-    (under-returns-6 t) (under-both-requires t) (under-same-length-6 t) (under-returns-7 t))
++plain+under-spec = close plain-measure under-measure (λ t. plain-meets t) (λ t. under-meets t)

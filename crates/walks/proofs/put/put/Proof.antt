@@ -2,8 +2,9 @@
 -- Assumes nothing.
 use native.Mathlib.Omega.{arith}
 use borrow.Author.Needs.{needs, sfits-of}
+use Rattle.builder.specs.Built.{compared}
 use Rattle.walks.proofs.PutLaws.{divisor-small, gives-value, gives-literal, node-is}
-use Rattle.walks.proofs.PutLaws.{positive-kind, zero-kind, divisor-kind}
+use Rattle.walks.proofs.PutLaws.{positive-test, zero-test, divisor-test}
 use Rattle.walks.proofs.put.put.Statement.{statement}
 use Rattle.walks.proofs.put.put.Tie as tie
 
@@ -30,12 +31,13 @@ same-length : tie.Need-same-length
 same-length c = search needs
 
 returns-2 : tie.Need-returns-2
+unfolding compared
 returns-2 c t ds m h =
     let put = c .before .before in
     let kind = put .before .before in
     let test = kind .before in
     gives-literal _ _ ds _ t _ (test .if1 .left) (test .before .settles .ensures t m)
-    (node-is _ _ ds _ _ t (positive-kind (kind .if2 .taken) t m) (put .compared .ensures ds h))
+    (node-is _ _ ds _ _ t (positive-test (kind .if2 .taken) t m) (put .compared .ensures ds h))
 
 compared-requires-2 : tie.Need-compared-requires-2
 compared-requires-2 c κs = search needs
@@ -44,12 +46,13 @@ same-length-2 : tie.Need-same-length-2
 same-length-2 c = search needs
 
 returns-3 : tie.Need-returns-3
+unfolding compared
 returns-3 c t ds m h =
     let put = c .before .before in
     let kind = put .before .before in
     let test = kind .before .before in
     gives-literal _ _ ds _ t _ (test .if1 .left) (test .before .settles .ensures t m)
-    (node-is _ _ ds _ _ t (zero-kind (kind .if3 .taken) t m) (put .compared2 .ensures ds h))
+    (node-is _ _ ds _ _ t (zero-test (kind .if3 .taken) t m) (put .compared2 .ensures ds h))
 
 divided-requires : tie.Need-divided-requires
 divided-requires c κs =
@@ -69,7 +72,7 @@ returns-4 c t ds m h =
     let kind = put .before .before in
     let test = kind .before .before in
     gives-literal _ _ ds _ t _ (test .if1 .left) (test .before .settles .ensures t m)
-    (node-is _ _ ds _ _ t (divisor-kind (kind .before .if2 .left) (kind .if3 .left) t m) (put .divided .ensures ds h))
+    (node-is _ _ ds _ _ t (divisor-test (kind .before .if2 .left) (kind .if3 .left) t m) (put .divided .ensures ds h))
 
 pub put-spec : {M : Type 1} → statement M
 put-spec =
