@@ -2,7 +2,7 @@
 -- Assumes nothing.
 use mathlib.Core.Path.{_∙_, ap}
 use mathlib.Core.List.{List, [], _∷_}
-use Prim.Native.Nat.{ℕ, _+_, _*_, _/_, _≤_}
+use Prim.Native.Nat.{ℕ, _+_, _*_, _≤_}
 use native.Mathlib.Omega.{arith}
 use lib.IntN.{ℤ, pos}
 use lib.ListN.{length, length-append}
@@ -22,7 +22,7 @@ use Rattle.bodies.proofs.CursorLaws.{gather-across}
 -- ---- literals
 
 -- between two literals stands a join
-pub count-literals : (a : Rule) → 2 * length (literals-of a) ≤ count a + 1
+count-literals : (a : Rule) → 2 * length (literals-of a) ≤ count a + 1
 unfolding literals-of count
 count-literals (Constant b) = omega arith
 count-literals (Join j a b) =
@@ -32,7 +32,7 @@ count-literals (Literal t s) = omega arith
 count-literals (Bind q v a) = omega (arith, count-literals a)
 
 -- a literal has eight words or more, a join two
-pub weight-literals : (a : Rule) → WellFormed a → 10 * length (literals-of a) ≤ weight a + 2
+weight-literals : (a : Rule) → WellFormed a → 10 * length (literals-of a) ≤ weight a + 2
 unfolding literals-of weight Each before-sum
 weight-literals (Constant b) w = omega arith
 weight-literals (Join j a b) w =
@@ -44,9 +44,6 @@ weight-literals (Literal positive s) w = omega (arith, w .0)
 weight-literals (Literal (divisible b k) s) w = omega (arith, w .0)
 weight-literals (Literal is-zero s) w = omega (arith, w .0)
 weight-literals (Bind q v a) w = omega (arith, weight-literals a (w .1))
-
-pub few-literals : (a : Rule) → WellFormed a → length (literals-of a) ≤ (weight a + 2) / 10
-few-literals a w = omega (arith, weight-literals a w)
 
 -- ---- bounds
 

@@ -6,82 +6,26 @@ use mathlib.Core.List.{List, [], _∷_, _++_}
 use Prim.Native.Nat.{ℕ, _+_, _-_, _<_, _≤_}
 use native.Mathlib.Decide.{ℕ-discrete}
 use native.Mathlib.Omega.{arith}
-use lib.Dec.{T, eqb, eqb→eq, eqb-refl}
 use lib.IntN.{ℤ, pos, negsuc, _*ℤ_}
 use lib.ListN.{length, getD, drop, set, length-append, length-set, List·getD-append}
 use lib.Seq.{ext-getD, getD-set-same, getD-set-other, getD-append-seam}
 use Rattle.whole.specs.Integers.{eqZ}
 use Rattle.whole.proofs.Difference.{zz, z2}
-use Rattle.whole.proofs.Tests.{cond-ind, eqZ→eq}
 use Rattle.rules.specs.Sum.{Sum, factor, negate, put}
-use Rattle.rules.specs.Rule.{Test, positive, divisible, is-zero, Whether}
+use Rattle.rules.specs.Rule.{Test, positive, Whether}
 use Rattle.rules.specs.Steps.{bound-of, once}
 use Rattle.rules.specs.Laws.{InTable}
 use Rattle.rules.specs.Calls.{signed}
-use Rattle.rules.proofs.Sizes.{before-sum, words}
+use Rattle.rules.proofs.Sizes.{before-sum}
 use Rattle.rules.proofs.Sums.{factor-put-other, factor-scale}
-use Rattle.tables.proofs.WordLaws.{number-of, natural-unique}
+use Rattle.tables.proofs.WordLaws.{natural-unique}
 use Rattle.tables.proofs.Inversion.{BodyAt}
 use Rattle.bodies.specs.Body.{BoundAt, BoundsAt}
 use Rattle.bodies.specs.Cursor.{LiteralAt}
-use Rattle.bodies.specs.Bounds.{Alike, Unless, OfLiteral, GivesBound}
+use Rattle.bodies.specs.Bounds.{Alike, OfLiteral, GivesBound}
 use Rattle.bodies.specs.declared.bound.Bound.{Bound}
-use Rattle.bodies.proofs.LiteralWords.{kind-word, sum-word}
+use Rattle.bodies.proofs.LiteralWords.{sum-word}
 use Rattle.bodies.proofs.OnceLaws.{In, at-in, in-at, once-there, once-new}
-
--- ---- which literal gives a bound
-
-module _ {bs : List ℤ} {p end : ℕ} {s : Sum} {ls : List (Test × Sum)}
-    (k : ℕ) (kind : getD bs p (pos 0) ≡ signed k) where
-  no-bound : (t : Test) → LiteralAt bs p end t s ls → (x : ℕ) → ¬ (k ≡ 5) → bound-of x t s ≡ []
-  unfolding bound-of
-  no-bound positive l x f = absurd (f (number-of k 5 (sym kind ∙ kind-word bs p positive (l .stands))))
-  no-bound (divisible b d) l x f = refl
-  no-bound is-zero l x f = refl
-
-  pub gives-none : (t : Test) → LiteralAt bs p end t s ls → (x : ℕ) → ¬ (k ≡ 5) → GivesBound x t s false
-  unfolding GivesBound
-  gives-none t l x f = no-bound t l x f
-
-  five-positive : (t : Test) → LiteralAt bs p end t s ls → k ≡ 5 → t ≡ positive
-  five-positive positive l e = refl
-  five-positive (divisible true d) l e =
-      absurd (omega (arith, e, number-of k 6 (sym kind ∙ kind-word bs p (divisible true d) (l .stands))))
-  five-positive (divisible false d) l e =
-      absurd (omega (arith, e, number-of k 7 (sym kind ∙ kind-word bs p (divisible false d) (l .stands))))
-  five-positive is-zero l e = absurd (omega (arith, e, number-of k 10 (sym kind ∙ kind-word bs p is-zero (l .stands))))
-
-factor-not-one : (x : ℕ) (t : Test) (s : Sum) → ¬ (factor x s ≡ pos 1) → bound-of x t s ≡ []
-unfolding bound-of
-factor-not-one x positive s f =
-    cond-ind (eqZ (factor x s) (pos 1)) (negate (put x (pos 0) s) ∷ []) [] (λ (m : List Sum). m ≡ [])
-    (λ t. absurd (f (eqZ→eq (factor x s) (pos 1) t))) (λ t. refl)
-factor-not-one x (divisible b k) s f = refl
-factor-not-one x is-zero s f = refl
-
-module _ {bs : List ℤ} {p end : ℕ} {t : Test} {s : Sum} {ls : List (Test × Sum)} (l : LiteralAt bs p end t s ls) (k : ℕ)
-    (kind : getD bs p (pos 0) ≡ signed k) (five : k ≡ 5) (x : ℕ) (within : x ≤ 6)
-    (u : ℕ) (word : getD bs (p + 1 + x) (pos 0) ≡ signed u) where
-  factor-word : factor x s ≡ signed u
-  unfolding before-sum
-  factor-word =
-      let at = subst (λ (t : Test). BodyAt (drop p bs) (l .node) t s) (five-positive k kind t l five) (l .stands) in
-      sym (sum-word bs p positive at x (omega (arith, within, l .formed .0))) ∙ word
-
-  gives-one : u ≡ 1 → GivesBound x t s true
-  unfolding GivesBound
-  gives-one e = (five-positive k kind t l five, factor-word ∙ ap signed e)
-
-  gives-other : ¬ (u ≡ 1) → GivesBound x t s false
-  unfolding GivesBound
-  gives-other f = factor-not-one x t s (λ e. f (number-of u 1 (sym factor-word ∙ e)))
-
-  pub gives-factor : GivesBound x t s (eqb u 1)
-  gives-factor = by (eqb u 1) refl
-    where
-      by : (b : Bool) → eqb u 1 ≡ b → GivesBound x t s b
-      by true e = gives-one (eqb→eq u 1 (subst T (sym e) tt))
-      by false e = gives-other (λ i. subst T e (subst (λ (m : ℕ). T (eqb u m)) i (eqb-refl u)))
 
 -- ---- two places that give the same bound
 
@@ -107,7 +51,7 @@ module _ {bs : List ℤ} {x p q : ℕ} {u v : Sum} (b : BoundAt bs x p u) (c : B
   as-long : length (b .sum) ≡ length (c .sum)
   as-long = b .formed .0 ∙ sym (c .formed .0)
 
-  pub alike-equal : Alike bs p q → u ≡ v
+  alike-equal : Alike bs p q → u ≡ v
   alike-equal all =
       let equal : b .sum ≡ c .sum = ext-getD (pos 0) (b .sum) (c .sum) as-long each in
       b .bound-is ∙ ap (λ (s : Sum). negate (put x (pos 0) s)) equal ∙ sym (c .bound-is)
@@ -117,7 +61,7 @@ module _ {bs : List ℤ} {x p q : ℕ} {u v : Sum} (b : BoundAt bs x p u) (c : B
           let small : j < 7 = omega (arith, h, b .formed .0) in
           sym (bound-word b j small) ∙ all (1 + j) (omega arith) (omega (arith, small)) ∙ bound-word c j small
 
-  pub equal-alike : u ≡ v → Alike bs p q
+  equal-alike : u ≡ v → Alike bs p q
   equal-alike e i h k =
       let (j, is) : (j : ℕ) × (i ≡ 1 + j) = (i - 1, omega (arith, h)) in
       let small : j < 7 = omega (arith, is, k) in
@@ -151,9 +95,9 @@ module _ (bs : List ℤ) (p q n : ℕ) (u v : ℕ) (e : getD bs (p + n) (pos 0) 
   pub not-alike : u < 4294967296 → v < 4294967296 → ¬ (u ≡ v) → 1 ≤ n → n < 8 → ¬ Alike bs p q
   not-alike h k other l m all = other (natural-unique u v h k (sym e ∙ all n l m ∙ f))
 
-pub unless-not : (A : Type 0) (r : Bool) → Whether r A → Unless (not r) A
-unless-not A true a = a
-unless-not A false f = f
+pub whether-not : (A : Type 0) (r : Bool) → Whether r A → Whether (not (not r)) A
+whether-not A true a = a
+whether-not A false f = f
 
 pub other-constants : {bs : List ℤ} {a b : Bound} → OfLiteral bs a → OfLiteral bs b → ¬ (a .constant ≡ b .constant)
     → ¬ Alike bs (a .place) (b .place)

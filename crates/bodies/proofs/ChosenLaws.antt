@@ -15,8 +15,8 @@ use Rattle.rules.specs.Laws.{QuantifierFree}
 use Rattle.rules.proofs.Sizes.{weight}
 use Rattle.rules.proofs.Meaning.{none-quantified, some-quantified}
 use Rattle.tables.specs.Standing.{Stands}
+use Rattle.tables.specs.Last.{chosen-number, chosen-place}
 use Rattle.tables.proofs.Standings.{under-not, under-bind, left, right}
-use Rattle.bodies.specs.Body.{chosen-number, chosen-place}
 use Rattle.bodies.proofs.BehindLaws.{behind-none, behind-more}
 
 -- ---- where there is none

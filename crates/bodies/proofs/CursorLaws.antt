@@ -3,44 +3,22 @@
 use mathlib.Core.Path.{_≡_, refl, sym, _∙_, ap, subst}
 use mathlib.Core.List.{List, [], _∷_, _++_, append-assoc, append-nil}
 use Prim.Native.Nat.{ℕ, _+_, _<_, _≤_}
-use native.Mathlib.Nat.{add-zero}
 use native.Mathlib.Omega.{arith}
 use lib.IntN.{ℤ, pos}
-use lib.ListN.{length, getD, drop, length-append, length-drop, List·getD-append}
-use lib.Seq.{drop-at, drop-drop, getD-drop}
+use lib.ListN.{length, getD, drop}
 use Rattle.rules.specs.Sum.{Sum}
 use Rattle.rules.specs.Rule.{Test, positive, divisible, is-zero, Rule, Constant, Join, Not, Literal, Bind}
 use Rattle.rules.specs.Table.{Node, constant-node, join-node, not-node, literal-node, bind-node, body, nodes, bodies}
 use Rattle.rules.specs.Literals.{gather}
 use Rattle.rules.specs.Calls.{signed}
-use Rattle.rules.proofs.Sizes.{words, total, before-sum, length-body, words-pos, weight-is}
+use Rattle.rules.proofs.Sizes.{words, total, before-sum, words-pos, weight-is}
 use Rattle.rules.proofs.Encoding.{Good, AllGood, good-nodes}
-use Rattle.tables.specs.Reads.{widths, kind-of}
-use Rattle.tables.proofs.TreeSteps.{kinds}
-use Rattle.tables.proofs.WordLaws.{number-of}
+use Rattle.tables.specs.Reads.{widths}
 use Rattle.bodies.specs.Body.{BodyOf, SomeBody}
 use Rattle.bodies.specs.Cursor.{literals-of, literals-in, across, Remaining, LiteralAt, Next, SomeRemaining}
+use Rattle.bodies.proofs.NodeLaws.{node-inside, node-behind, node-wide}
 
--- ---- a node whose body starts at place p: how wide it is, by its first word
-
-node-wide : (d : Node) (n k : ℕ) → Good d → getD (body n d) 0 (pos 0) ≡ signed k → getD widths k 0 ≡ words d
-node-wide d n k g first =
-    let c = kinds d g in
-    ap (λ (m : ℕ). getD widths m 0) (number-of k (kind-of d) (sym first ∙ c .first n)) ∙ c .wide
-
-module _ (bs : List ℤ) (p : ℕ) (d : Node) (n : ℕ) (after : List ℤ) (begins : drop p bs ≡ body n d ++ after) where
-  pub node-inside : p + words d ≤ length bs
-  node-inside =
-      let all = ap length begins ∙ length-append (body n d) after in
-      omega (arith, all, length-body n d, words-pos d, length-drop p bs)
-
-  place-wide : Good d → (k w : ℕ) → getD bs p (pos 0) ≡ signed k → w ≡ getD widths k 0 → w ≡ words d
-  place-wide g k w first wide =
-      let here : getD (body n d) 0 (pos 0) ≡ signed k =
-      sym (List·getD-append (body n d) after (pos 0) 0 (omega (arith, length-body n d, words-pos d)))
-      ∙ sym (ap (λ (l : List ℤ). getD l 0 (pos 0)) begins)
-      ∙ getD-drop p bs 0 (pos 0) ∙ ap (λ (m : ℕ). getD bs m (pos 0)) (add-zero p) ∙ first in
-      wide ∙ node-wide d n k g here
+-- ---- which nodes are literals
 
 -- a literal alone has more than seven words
 wide-literal : (d : Node) → 7 < words d → (t : Test) × (s : Sum) × (d ≡ literal-node t s)
@@ -94,8 +72,7 @@ front bs p end ls r more = go (r .nodes) (r .begins) (r .ends) (r .good) (r .lit
             number = n + 1;
             nodes = ds;
             after = r .after;
-            begins = sym (drop-drop (words d) p bs) ∙ ap (drop (words d)) begins
-                ∙ drop-at (body n d) rest (words d) (length-body n d);
+            begins = node-behind bs p n d rest begins;
             ends = omega arith;
             good = g .1;
             literals = refl;
@@ -105,10 +82,10 @@ front bs p end ls r more = go (r .nodes) (r .begins) (r .ends) (r .good) (r .lit
 
 module _ {bs : List ℤ} {p end : ℕ} {ls : List (Test × Sum)} (f : Front bs p end ls) where
   front-inside : p + words (f .node) ≤ length bs
-  front-inside = node-inside bs p (f .node) (f .number) (f .after) (f .begins)
+  front-inside = node-inside bs p (f .number) (f .node) (f .after) (f .begins)
 
   front-wide : (k w : ℕ) → getD bs p (pos 0) ≡ signed k → w ≡ getD widths k 0 → w ≡ words (f .node)
-  front-wide k w first wide = place-wide bs p (f .node) (f .number) (f .after) (f .begins) (f .good) k w first wide
+  front-wide k w first wide = wide ∙ node-wide bs p (f .number) (f .node) (f .after) (f .begins) k first (f .good)
 
 -- ---- the steps of the search
 
@@ -175,7 +152,7 @@ module _ {bs : List ℤ} {p end : ℕ} {t : Test} {s : Sum} {ls : List (Test × 
   pub literal-inside : p + (before-sum t + 7) ≤ length bs
   unfolding words
   literal-inside =
-      let inside = node-inside bs p (literal-node t s) (l .node) (l .stands .after) (l .stands .begins) in
+      let inside = node-inside bs p (l .node) (literal-node t s) (l .stands .after) (l .stands .begins) in
       omega (arith, inside, l .formed .0)
 
   pub literal-eight : p + 8 ≤ length bs
@@ -194,8 +171,8 @@ module _ {bs : List ℤ} {p end : ℕ} {t : Test} {s : Sum} {ls : List (Test × 
     unfolding words Good
     literal-wide =
         let st = l .stands in
-        let same = place-wide bs p (literal-node t s) (l .node) (st .after) (st .begins) (l .formed) k w first wide in
-        omega (arith, same, l .formed .0)
+        let same = node-wide bs p (l .node) (literal-node t s) (st .after) (st .begins) k first (l .formed) in
+        omega (arith, wide, same, l .formed .0)
 
     pub literal-behind : Remaining bs (p + w) end ls
     literal-behind =

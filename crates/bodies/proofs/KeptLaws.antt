@@ -10,18 +10,18 @@ use lib.IntN.{ℤ}
 use lib.ListN.{length, getD, set, length-append, length-set}
 use lib.Seq.{getD-set-same, getD-set-other}
 use Rattle.rules.specs.Sum.{Sum}
-use Rattle.rules.specs.Rule.{Test, Rule}
+use Rattle.rules.specs.Rule.{Test}
 use Rattle.rules.specs.Literals.{gather}
 use Rattle.rules.specs.Steps.{bound-of, once, bounds as bounds-of}
-use Rattle.bodies.specs.Body.{BodyOf, SomeBody, BoundsAt, RoomForBounds}
-use Rattle.bodies.specs.Cursor.{literals-of, across, LiteralAt, Next, SomeLiteral}
+use Rattle.bodies.specs.Body.{SomeBody, WhicheverRule, BoundsAt, RoomForBounds}
+use Rattle.bodies.specs.Cursor.{literals-of, across, LiteralAt, WhicheverLiteral}
 use Rattle.bodies.specs.Bounds.{GivesBound, FirstGives, NextLower, Alike, OfLiteral, none, First, Noted, Kept}
-use Rattle.bodies.specs.Bounds.{SomeKept}
+use Rattle.bodies.specs.Bounds.{SomeKept, KeptWith}
 use Rattle.bodies.specs.declared.bound.Bound.{Bound}
-use Rattle.bodies.proofs.CursorLaws.{literal-ends, across-append, gather-across}
+use Rattle.bodies.proofs.CursorLaws.{across-append, gather-across}
+use Rattle.bodies.proofs.ScanLaws.{ScannedUpTo, here, scan-over}
 use Rattle.bodies.proofs.OnceLaws.{length-once}
 use Rattle.bodies.proofs.BoundLaws.{kept-known, kept-new, one-given}
-use Rattle.bodies.proofs.LowerLaws.{Whichever}
 
 -- ---- one more
 
@@ -91,11 +91,10 @@ module _ (bs : List ℤ) (bounds : List Bound) (k : ℕ) (b : Bound) (room : k <
         → Kept bs x more noted r new
     kept-more i r noted f n = by (ℕ-discrete i k)
       where
-        at : (k′ : ℕ) (places′ : List ℕ) → Kept bs x more places′ k′ new → (r ≡ k′) × (noted ≡ places′)
-            → Kept bs x more noted r new
-        at k′ places′ m e =
+        at : (n : ℕ) (ps : List ℕ) → Kept bs x more ps n new → (r ≡ n) × (noted ≡ ps) → Kept bs x more noted r new
+        at n ps m e =
             subst (λ (j : ℕ). Kept bs x more noted j new) (sym (e .0))
-            (subst (λ (l : List ℕ). Kept bs x more l k′ new) (sym (e .1)) m)
+            (subst (λ (l : List ℕ). Kept bs x more l n new) (sym (e .1)) m)
 
         by : Dec (i ≡ k) → Kept bs x more noted r new
         by (yes e) = at (k + 1) (set places k p) (kept-behind (subst (First bs more k b) e f)) (n .1 e)
@@ -105,34 +104,24 @@ module _ (bs : List ℤ) (bounds : List Bound) (k : ℕ) (b : Bound) (room : k <
 
 -- ---- the loop over the literals
 
--- at place p: the literals that it has been at, whose bounds are kept, and those that it has not, of which the first
--- gives a bound
-pub record Come (bs : List ℤ) (x p end : ℕ) (bounds : List Bound) (places : List ℕ) (k : ℕ) (a : Rule) : Type 0 where
-  pub done : List (Test × Sum)
-  pub left : List (Test × Sum)
-  pub whole : literals-of a ≡ done ++ left
-  pub next : Next bs p end left
-  pub gives : FirstGives x left
-  pub kept : Kept bs x bounds places k (once (across (bound-of x) done))
-
--- whatever rule has these bodies
+-- at place p the bounds of the literals before are kept, and the literal here gives one
 abbrev pub Gathered : List ℤ → ℕ → ℕ → ℕ → List Bound → List ℕ → ℕ → Type 0
-Gathered bs x p end bounds places k = (n : ℕ) (a : Rule) → BodyOf bs end n a → Come bs x p end bounds places k a
+Gathered bs x p end bounds places k =
+    ScannedUpTo bs p end (λ ls. Kept bs x bounds places k (once (across (bound-of x) ls))) (FirstGives x)
 
 pub gather-start : {bs : List ℤ} {x p end : ℕ} (bounds : List Bound) (places : List ℕ)
-    → ((n : ℕ) (a : Rule) → BodyOf bs end n a → NextLower bs x p end (literals-of a))
+    → WhicheverRule bs end (λ a. NextLower bs x p end (literals-of a))
     → Gathered bs x p end bounds places 0
 unfolding once
 gather-start {bs} {x} bounds places first n a b =
-    let f = first n a b in
-    let r = f .reached in
+    let r = first n a b in
     record {
-      done = r .passed;
+      passed = r .passed;
       left = r .left;
       whole = r .whole;
       next = r .next;
-      gives = f .gives;
-      kept = subst (λ (us : List Sum). Kept bs x bounds places 0 (once us)) (sym (r .without)) none-kept;
+      so-far = subst (λ (us : List Sum). Kept bs x bounds places 0 (once us)) (sym (r .so-far)) none-kept;
+      ahead = r .ahead;
     }
   where
     none-kept : Kept bs x bounds places 0 (once [])
@@ -146,106 +135,63 @@ gather-start {bs} {x} bounds places first n a b =
 module _ {bs : List ℤ} {x p end : ℕ} {bounds : List Bound} {places : List ℕ} {k : ℕ}
     (c : Gathered bs x p end bounds places k) where
   -- no literal is left
-  pub gather-over : end ≤ p → (n : ℕ) (a : Rule) → BodyOf bs end n a → BoundsAt bs x places k (bounds-of x a)
+  pub gather-over : end ≤ p → WhicheverRule bs end (λ a. BoundsAt bs x places k (bounds-of x a))
   unfolding bounds-of
   gather-over over n a b =
-      let h = c n a b in
-      let none-left = go (h .left) (h .next) in
-      let all = h .whole ∙ ap (λ (ls : List (Test × Sum)). h .done ++ ls) none-left ∙ append-nil (h .done) in
-      subst (λ (us : List Sum). BoundsAt bs x places k (once us))
-      (sym (gather-across (bound-of x) a ∙ ap (across (bound-of x)) all)) (h .kept .at)
-    where
-      go : (ls : List (Test × Sum)) → Next bs p end ls → ls ≡ []
-      go [] n = refl
-      go (l ∷ ls) n = absurd (unfold Next in omega (arith, literal-ends n))
+      subst (λ (us : List Sum). BoundsAt bs x places k (once us)) (sym (gather-across (bound-of x) a))
+      (scan-over c over n a b .at)
 
   module _ (more : p < end) where
-    -- the literal that it is at
-    record Here (a : Rule) : Type 0 where
-      done : List (Test × Sum)
-      test : Test
-      sum : Sum
-      left : List (Test × Sum)
-      whole : literals-of a ≡ done ++ ((test, sum) ∷ left)
-      at : LiteralAt bs p end test sum left
-      gives : GivesBound x test sum true
-      kept : Kept bs x bounds places k (once (across (bound-of x) done))
-
-    here : (a : Rule) → Come bs x p end bounds places k a → Here a
-    here a h = go (h .left) (h .whole) (h .next) (h .gives)
-      where
-        go : (ls : List (Test × Sum)) → literals-of a ≡ h .done ++ ls → Next bs p end ls → FirstGives x ls → Here a
-        go [] w n g = absurd (unfold Next in omega (arith, n))
-        go (l ∷ ls) w n g = unfold Next FirstGives in
-            record {
-              done = h .done;
-              test = l .0;
-              sum = l .1;
-              left = ls;
-              whole = w;
-              at = n;
-              gives = g;
-              kept = h .kept;
-            }
-
-    pub gather-here : SomeBody bs end → SomeLiteral bs p end
-    gather-here b =
-        let h = here (b .rule) (c (b .number) (b .rule) (b .body)) in
-        record { test = h .test; sum = h .sum; others = h .left; at = h .at; few = b .few }
-
     -- there is room for one more, since there is for all that the literals give
     pub gather-asks : SomeBody bs end → RoomForBounds bs end x (length bounds)
         → RoomForBounds bs end x (length places)
         → SomeKept bs p bounds places k
-    unfolding across
+    unfolding across FirstGives
     gather-asks b enough enough-places =
-        let h = here (b .rule) (c (b .number) (b .rule) (b .body)) in
-        let found : List Sum = across (bound-of x) (h .done) in
+        let h = here (c (b .number) (b .rule) (b .body)) more in
+        let found : List Sum = across (bound-of x) (h .passed) in
         let this : List Sum = bound-of x (h .test) (h .sum) in
         let left : List Sum = across (bound-of x) (h .left) in
         let all = gather-across (bound-of x) (b .rule) ∙ ap (across (bound-of x)) (h .whole)
-        ∙ across-append (bound-of x) (h .done) ((h .test, h .sum) ∷ h .left) in
+        ∙ across-append (bound-of x) (h .passed) ((h .test, h .sum) ∷ h .left) in
         let long : length (gather (bound-of x) (b .rule)) ≡ length found + (length this + length left) =
         ap length all ∙ length-append found (this ++ left)
         ∙ ap (λ (n : ℕ). length found + n) (length-append this left) in
-        let one = one-given x (h .test) (h .sum) (h .gives) in
+        let one = one-given x (h .test) (h .sum) (h .ahead) in
         let few = length-once found in
-        let as-many = h .kept .at .as-many in
+        let as-many = h .so-far .at .as-many in
         record {
           setting = x;
           end = end;
           literal = record { test = h .test; sum = h .sum; others = h .left; at = h .at; few = b .few };
-          gives = h .gives;
+          gives = h .ahead;
           found = found;
-          kept = h .kept;
+          kept = h .so-far;
           room = omega (arith, as-many, few, long, one, enough (b .number) (b .rule) (b .body));
           room-for-place = omega (arith, as-many, few, long, one, enough-places (b .number) (b .rule) (b .body));
         }
 
     -- its bound is kept, and the loop goes on at place q
-    pub gather-step : {q : ℕ} {bounds′ : List Bound} {places′ : List ℕ} {r : ℕ}
-        → ((x end : ℕ) (t : Test) (s : Sum) (ls : List (Test × Sum)) (found : List Sum) → LiteralAt bs p end t s ls
-        → GivesBound x t s true → Kept bs x bounds places k (once found)
-        → Kept bs x bounds′ places′ r (once (found ++ bound-of x t s)))
-        → Whichever bs p end (λ t s ls. NextLower bs x q end ls) → Gathered bs x q end bounds′ places′ r
-    unfolding across
-    gather-step {bounds′ = bounds′} {places′ = places′} {r = r} keeps follow n a b =
-        let h = here a (c n a b) in
-        let f = follow (h .test) (h .sum) (h .left) (h .at) in
-        let reached = f .reached in
-        let this : List (Test × Sum) = (h .test, h .sum) ∷ reached .passed in
-        let given = across-append (bound-of x) (h .done) this
-        ∙ ap (λ (us : List Sum). across (bound-of x) (h .done) ++ (bound-of x (h .test) (h .sum) ++ us))
-        (reached .without)
-        ∙ ap (λ (us : List Sum). across (bound-of x) (h .done) ++ us) (append-nil (bound-of x (h .test) (h .sum))) in
+    pub gather-step : {q : ℕ} {new-bounds : List Bound} {new-places : List ℕ} {r : ℕ}
+        → KeptWith bs p bounds places k new-bounds new-places r
+        → WhicheverLiteral bs p end (λ t s ls. NextLower bs x q end ls) → Gathered bs x q end new-bounds new-places r
+    unfolding across FirstGives
+    gather-step {new-bounds = new-bounds} {new-places = new-places} {r = r} keeps follow n a b =
+        let h = here (c n a b) more in
+        let next = follow (h .test) (h .sum) (h .left) (h .at) in
+        let this : List (Test × Sum) = (h .test, h .sum) ∷ next .passed in
+        let given = across-append (bound-of x) (h .passed) this
+        ∙ ap (λ (us : List Sum). across (bound-of x) (h .passed) ++ (bound-of x (h .test) (h .sum) ++ us))
+        (next .so-far)
+        ∙ ap (λ (us : List Sum). across (bound-of x) (h .passed) ++ us) (append-nil (bound-of x (h .test) (h .sum))) in
         record {
-          done = h .done ++ this;
-          left = reached .left;
+          passed = h .passed ++ this;
+          left = next .left;
           whole = h .whole
-              ∙ ap (λ (ls : List (Test × Sum)). h .done ++ ((h .test, h .sum) ∷ ls)) (reached .whole)
-              ∙ sym (append-assoc (h .done) this (reached .left));
-          next = reached .next;
-          gives = f .gives;
-          kept = subst (λ (us : List Sum). Kept bs x bounds′ places′ r (once us)) (sym given)
-              (keeps x end (h .test) (h .sum) (h .left) (across (bound-of x) (h .done)) (h .at) (h .gives) (h .kept));
+              ∙ ap (λ (ls : List (Test × Sum)). h .passed ++ ((h .test, h .sum) ∷ ls)) (next .whole)
+              ∙ sym (append-assoc (h .passed) this (next .left));
+          next = next .next;
+          so-far = subst (λ (us : List Sum). Kept bs x new-bounds new-places r (once us)) (sym given)
+              (keeps x end (h .test) (h .sum) (h .left) _ (h .at) (h .ahead) (h .so-far));
+          ahead = next .ahead;
         }

@@ -1,6 +1,4 @@
-pub mod RestLaws
-pub mod LastLaws
-pub mod CountLaws
+pub mod NodeLaws
 pub mod BehindLaws
 pub mod ChosenLaws
 pub mod SpanLaws
@@ -13,6 +11,7 @@ pub mod BoundLaws
 pub mod BoundCount
 pub mod LowerLaws
 pub mod KeptLaws
+pub mod ByWalk
 pub mod BoundRow
 pub mod WalkSteps
 pub mod LentAgain

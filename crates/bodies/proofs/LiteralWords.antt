@@ -18,7 +18,7 @@ module _ (bs : List ℤ) (p : ℕ) where
   word-at : (i : ℕ) (l : List ℤ) → drop p bs ≡ l → getD bs (p + i) (pos 0) ≡ getD l i (pos 0)
   word-at i l e = sym (getD-drop p bs i (pos 0)) ∙ ap (λ (ws : List ℤ). getD ws i (pos 0)) e
 
-  first-at : (l : List ℤ) → drop p bs ≡ l → getD bs p (pos 0) ≡ getD l 0 (pos 0)
+  pub first-at : (l : List ℤ) → drop p bs ≡ l → getD bs p (pos 0) ≡ getD l 0 (pos 0)
   first-at l e = sym (ap (λ (m : ℕ). getD bs m (pos 0)) (add-zero p)) ∙ word-at 0 l e
 
 module _ (bs : List ℤ) (p : ℕ) {n : ℕ} {s : Sum} where
@@ -35,7 +35,7 @@ module _ (bs : List ℤ) (p : ℕ) {n : ℕ} {s : Sum} where
   divisor-word false k b = word-at bs p 1 _ (b .begins)
 
   -- the sum stands behind the kind, or behind the divisor
-  pub sum-starts : (t : Test) (b : BodyAt (drop p bs) n t s) → drop (p + before-sum t) bs ≡ s ++ b .after
+  sum-starts : (t : Test) (b : BodyAt (drop p bs) n t s) → drop (p + before-sum t) bs ≡ s ++ b .after
   unfolding body before-sum
   sum-starts positive b = sym (drop-drop 1 p bs) ∙ ap (drop 1) (b .begins)
   sum-starts (divisible true k) b = sym (drop-drop 2 p bs) ∙ ap (drop 2) (b .begins)

@@ -3,7 +3,7 @@
 use mathlib.Core.Path.{_≡_, refl, sym, _∙_, ap, subst}
 use mathlib.Core.Bool.{Bool, not, cond}
 use mathlib.Core.List.{List, [], _∷_, _++_, append-nil, append-assoc}
-use Prim.Native.Nat.{ℕ, zero, suc, _+_, _-_, _*_, _/_, _<_, _≤_}
+use Prim.Native.Nat.{ℕ, zero, suc, _+_, _-_, _/_, _<_, _≤_}
 use native.Mathlib.Nat.{mul-le-mul-left}
 use native.Mathlib.Omega.{arith}
 use lib.Dec.{eqb·suc-zero}
@@ -16,7 +16,7 @@ use Rattle.whole.specs.Bounded.{BoundedMultiple}
 use Rattle.whole.specs.declared.Multiple.{Multiple}
 use Rattle.whole.specs.declared.Multiple.the-variants.{Least, OverLimit}
 use Rattle.whole.proofs.Lists.{All, all-append}
-use Rattle.whole.proofs.Divisibility.{divides-self, divides-times, divides-trans}
+use Rattle.whole.proofs.Divisibility.{one-divides, divides-self, divides-trans}
 use Rattle.whole.proofs.Multiples.{quotient-exact, quotient-pos, lcm-is, lcm-unique, lcms-pos}
 use Rattle.rules.specs.Sum.{Sum, factor}
 use Rattle.rules.specs.Rule.{Test, positive, divisible, is-zero, Rule, Constant, Join, Not, Literal, Bind}
@@ -39,11 +39,8 @@ use Rattle.bodies.proofs.ScanLaws.{Passed}
 
 -- ---- of two lists
 
-one-divides : (n : ℕ) → Divides 1 (pos n)
-one-divides n = subst (λ (m : ℕ). Divides 1 (pos m)) (let e : 1 * n ≡ n = omega arith in e) (divides-times 1 (pos n))
-
 one-least : (n : ℕ) → LeastCommonMultiple 1 n n
-one-least n = record { left = one-divides n; right = divides-self; least = λ m h k. k }
+one-least n = record { left = one-divides (pos n); right = divides-self; least = λ m h k. k }
 
 regroup : {a b c d e f : ℕ} → LeastCommonMultiple a b d → LeastCommonMultiple b c e → LeastCommonMultiple a e f
     → LeastCommonMultiple d c f
@@ -63,7 +60,7 @@ unfolding lcms
 lcms-one a = lcm-unique turned (lcm-is a 1)
   where
     turned : LeastCommonMultiple a 1 a
-    turned = record { left = divides-self; right = one-divides a; least = λ n h k. h }
+    turned = record { left = divides-self; right = one-divides (pos a); least = λ n h k. h }
 
 -- a divisor of a positive number is no greater
 at-most : (g n : ℕ) → 0 < n → Divides g (pos n) → g ≤ n
@@ -175,12 +172,12 @@ abbrev pub multiple-of : ℕ → List (Test × Sum) → ℕ
 multiple-of x ls = lcms (across (brought x) ls)
 
 -- m is that multiple
-abbrev pub Reached : ℕ → ℕ → Passed
-Reached x m ls = m ≡ multiple-of x ls
+abbrev pub IsMultiple : ℕ → ℕ → Passed
+IsMultiple x m ls = m ≡ multiple-of x ls
 
-pub reached-none : (x : ℕ) → Reached x 1 []
+pub multiple-none : (x : ℕ) → IsMultiple x 1 []
 unfolding across lcms
-reached-none x = refl
+multiple-none x = refl
 
 -- past the limit, where they are formed
 abbrev pub Past : ℕ → Passed
@@ -192,7 +189,7 @@ small m n r b k i = subst (BoundedMultiple m n most-period) i b .1
 
 module _ (x : ℕ) (m n : ℕ) where
   -- the multiple of m, which is that of the literals before, and of n, which this literal brings
-  with-next : (t : Test) (s : Sum) (ks : List (Test × Sum)) → Reached x m ks → n ≡ lcms (brought x t s)
+  with-next : (t : Test) (s : Sum) (ks : List (Test × Sum)) → IsMultiple x m ks → n ≡ lcms (brought x t s)
       → LeastCommonMultiple m n (multiple-of x (ks ++ ((t, s) ∷ [])))
   unfolding across
   with-next t s ks e f =
@@ -206,14 +203,14 @@ module _ (x : ℕ) (m n : ℕ) where
 
   module _ (r : Multiple) (b : BoundedMultiple m n most-period r) where
     pub grown : (k : ℕ) → r ≡ Least k → (t : Test) (s : Sum) (ks : List (Test × Sum))
-        → Reached x m ks → n ≡ lcms (brought x t s) → k ≡ multiple-of x (ks ++ ((t, s) ∷ []))
+        → IsMultiple x m ks → n ≡ lcms (brought x t s) → k ≡ multiple-of x (ks ++ ((t, s) ∷ []))
     unfolding BoundedMultiple
     grown k i t s ks e f =
         lcm-unique (subst (BoundedMultiple m n most-period) i b .0) (with-next t s ks e f)
 
     -- a multiple past the limit stays past it
     pub past : r ≡ OverLimit → (t : Test) (s : Sum) (ls ks : List (Test × Sum))
-        → Reached x m ks → n ≡ lcms (brought x t s)
+        → IsMultiple x m ks → n ≡ lcms (brought x t s)
         → Past x (ks ++ ((t, s) ∷ ls))
     unfolding BoundedMultiple
     past i t s ls ks e f formed =
@@ -230,7 +227,7 @@ module _ (x : ℕ) (m n : ℕ) where
 
 -- what the loop answers is what is gathered
 module _ (x : ℕ) (a : Rule) where
-  pub answer-least : (m : ℕ) → m ≤ most-period → Reached x m (literals-of a)
+  pub answer-least : (m : ℕ) → m ≤ most-period → IsMultiple x m (literals-of a)
       → Bounded (lcms (gather (brought x) a)) (Least m)
   unfolding Bounded
   answer-least m h e =

@@ -13,7 +13,7 @@ use Rattle.whole.proofs.Tests.{T-and, T-no, T-dec, cond-ind, eq→eqZ}
 use Rattle.whole.proofs.Lists.{Any}
 use Rattle.rules.specs.Sum.{Sum, same}
 use Rattle.rules.specs.Steps.{without, once}
-use Rattle.rules.proofs.Disjunction.{same→eq, any-without}
+use Rattle.rules.proofs.Bounds.{same→eq, any-without}
 
 -- ---- equal sums
 

@@ -5,90 +5,121 @@ use mathlib.Core.List.{List, [], _∷_, _++_, append-assoc, append-nil}
 use Prim.Native.Nat.{ℕ, _<_, _≤_}
 use native.Mathlib.Omega.{arith}
 use lib.IntN.{ℤ}
+use lib.ListN.{length}
 use Rattle.rules.specs.Sum.{Sum}
-use Rattle.rules.specs.Rule.{Test, Rule}
-use Rattle.bodies.specs.Body.{BodyOf, SomeBody}
-use Rattle.bodies.specs.Cursor.{literals-of, LiteralAt, Next, SomeLiteral}
+use Rattle.rules.specs.Rule.{Test}
+use Rattle.rules.specs.Table.{most-words}
+use Rattle.bodies.specs.Body.{SomeBody, WhicheverRule}
+use Rattle.bodies.specs.Cursor.{literals-of, LiteralAt, WhicheverLiteral, Next, Reached, SomeLiteral}
 use Rattle.bodies.proofs.CursorLaws.{literal-ends}
 
--- what is asked of the literals that a loop has been at
+-- what is asked of some literals
 abbrev pub Passed : Type 1
 Passed = List (Test × Sum) → Type 0
 
--- at place p: the literals of a that it has been at, of which Q holds, and those that it has not
-pub record Come (bs : List ℤ) (p end : ℕ) (Q : Passed) (a : Rule) : Type 0 where
-  pub done : List (Test × Sum)
-  pub left : List (Test × Sum)
-  pub whole : literals-of a ≡ done ++ left
-  pub next : Next bs p end left
-  pub so-far : Q done
+abbrev pub Anything : Passed
+Anything ls = Unit {0}
 
--- whatever rule has these bodies
-abbrev pub Scanned : List ℤ → ℕ → ℕ → Passed → Type 0
-Scanned bs p end Q = (n : ℕ) (a : Rule) → BodyOf bs end n a → Come bs p end Q a
+-- ---- among some literals
 
-pub scan-start : {bs : List ℤ} {p end : ℕ} (Q : Passed) → Q []
-    → ((n : ℕ) (a : Rule) → BodyOf bs end n a → Next bs p end (literals-of a)) → Scanned bs p end Q
-scan-start Q none first n a b =
-    record { done = []; left = literals-of a; whole = refl; next = first n a b; so-far = none }
+pub reached-first : {bs : List ℤ} {p end : ℕ} {ls : List (Test × Sum)} (Q : Passed) → Q [] → Next bs p end ls
+    → Reached bs p end Q Anything ls
+reached-first {ls = ls} Q none next =
+    record { passed = []; left = ls; whole = refl; next = next; so-far = none; ahead = tt }
 
--- the literal that the loop is at
-pub record Here (bs : List ℤ) (p end : ℕ) (Q : Passed) (a : Rule) : Type 0 where
-  pub done : List (Test × Sum)
+-- the literal that is reached
+pub record Here (bs : List ℤ) (p end : ℕ) (Q F : Passed) (ls : List (Test × Sum)) : Type 0 where
+  pub passed : List (Test × Sum)
   pub test : Test
   pub sum : Sum
   pub left : List (Test × Sum)
-  pub whole : literals-of a ≡ done ++ ((test, sum) ∷ left)
+  pub whole : ls ≡ passed ++ ((test, sum) ∷ left)
   pub at : LiteralAt bs p end test sum left
-  pub so-far : Q done
+  pub so-far : Q passed
+  pub ahead : F ((test, sum) ∷ left)
 
-pub here : (bs : List ℤ) (p end : ℕ) (Q : Passed) (a : Rule) → p < end → Come bs p end Q a → Here bs p end Q a
-here bs p end Q a more c = go (c .left) (c .whole) (c .next)
-  where
-    go : (ls : List (Test × Sum)) → literals-of a ≡ c .done ++ ls → Next bs p end ls → Here bs p end Q a
-    go [] w n = absurd (unfold Next in omega (arith, n))
-    go (l ∷ ls) w n = unfold Next in
-        record { done = c .done; test = l .0; sum = l .1; left = ls; whole = w; at = n; so-far = c .so-far }
-
-module _ {bs : List ℤ} {p end : ℕ} {Q : Passed} (s : Scanned bs p end Q) where
-  -- no literal is left
-  pub scan-over : end ≤ p → (n : ℕ) (a : Rule) → BodyOf bs end n a → Q (literals-of a)
-  scan-over over n a b =
-      let c = s n a b in
-      let none : c .left ≡ [] = go (c .left) (c .next) in
-      subst Q (sym (c .whole ∙ ap (λ (ls : List (Test × Sum)). c .done ++ ls) none ∙ append-nil (c .done))) (c .so-far)
+module _ {bs : List ℤ} {p end : ℕ} {Q F : Passed} {ls : List (Test × Sum)} (r : Reached bs p end Q F ls) where
+  pub here : p < end → Here bs p end Q F ls
+  here more = go (r .left) (r .whole) (r .next) (r .ahead)
     where
-      go : (ls : List (Test × Sum)) → Next bs p end ls → ls ≡ []
+      go : (ms : List (Test × Sum)) → ls ≡ r .passed ++ ms → Next bs p end ms → F ms → Here bs p end Q F ls
+      go [] w n f = absurd (unfold Next in omega (arith, n))
+      go (l ∷ ms) w n f = unfold Next in
+          record {
+            passed = r .passed;
+            test = l .0;
+            sum = l .1;
+            left = ms;
+            whole = w;
+            at = n;
+            so-far = r .so-far;
+            ahead = f;
+          }
+
+  pub reached-here : p < end → length bs ≤ most-words → SomeLiteral bs p end
+  reached-here more few =
+      let h = here more in
+      record { test = h .test; sum = h .sum; others = h .left; at = h .at; few = few }
+
+  -- place q is the next, where the literals behind this one are found
+  pub reached-next : {q : ℕ} (R : Passed) → p < end → WhicheverLiteral bs p end (λ t s ks. Next bs q end ks)
+      → ((t : Test) (s : Sum) (ks ds : List (Test × Sum)) → LiteralAt bs p end t s ks → Q ds
+      → R (ds ++ ((t, s) ∷ [])))
+      → Reached bs q end R Anything ls
+  reached-next R more follow grow =
+      let h = here more in
+      record {
+        passed = h .passed ++ ((h .test, h .sum) ∷ []);
+        left = h .left;
+        whole = h .whole ∙ sym (append-assoc (h .passed) ((h .test, h .sum) ∷ []) (h .left));
+        next = follow (h .test) (h .sum) (h .left) (h .at);
+        so-far = grow (h .test) (h .sum) (h .left) (h .passed) (h .at) (h .so-far);
+        ahead = tt;
+      }
+
+  -- no literal is left
+  pub reached-end : end ≤ p → Q ls
+  reached-end over =
+      let none : r .left ≡ [] = go (r .left) (r .next) in
+      let all = r .whole ∙ ap (λ (ms : List (Test × Sum)). r .passed ++ ms) none ∙ append-nil (r .passed) in
+      subst Q (sym all) (r .so-far)
+    where
+      go : (ms : List (Test × Sum)) → Next bs p end ms → ms ≡ []
       go [] n = refl
-      go (l ∷ ls) n = absurd (unfold Next in omega (arith, literal-ends n))
+      go (l ∷ ms) n = absurd (unfold Next in omega (arith, literal-ends n))
+
+-- ---- among the literals of whatever rule has these bodies
+
+abbrev pub ScannedUpTo : List ℤ → ℕ → ℕ → Passed → Passed → Type 0
+ScannedUpTo bs p end Q F = WhicheverRule bs end (λ a. Reached bs p end Q F (literals-of a))
+
+-- where nothing is asked of those that are left
+abbrev pub Scanned : List ℤ → ℕ → ℕ → Passed → Type 0
+Scanned bs p end Q = ScannedUpTo bs p end Q Anything
+
+pub scan-start : {bs : List ℤ} {p end : ℕ} (Q : Passed) → Q []
+    → WhicheverRule bs end (λ a. Next bs p end (literals-of a)) → Scanned bs p end Q
+scan-start Q none first n a b = reached-first Q none (first n a b)
+
+module _ {bs : List ℤ} {p end : ℕ} {Q F : Passed} (s : ScannedUpTo bs p end Q F) where
+  pub scan-over : end ≤ p → WhicheverRule bs end (λ a. Q (literals-of a))
+  scan-over over n a b = reached-end (s n a b) over
 
   module _ (more : p < end) where
     pub scan-here : SomeBody bs end → SomeLiteral bs p end
-    scan-here b =
-        let h = here bs p end Q (b .rule) more (s (b .number) (b .rule) (b .body)) in
-        record { test = h .test; sum = h .sum; others = h .left; at = h .at; few = b .few }
+    scan-here b = reached-here (s (b .number) (b .rule) (b .body)) more (b .few)
 
-    -- the loop goes on at place q, where the literals behind this one are found
-    pub scan-step : {q : ℕ} (R : Passed)
-        → ((t : Test) (s : Sum) (ls : List (Test × Sum)) → LiteralAt bs p end t s ls → Next bs q end ls)
+    pub scan-step : {q : ℕ} (R : Passed) → WhicheverLiteral bs p end (λ t s ls. Next bs q end ls)
         → ((t : Test) (s : Sum) (ls ks : List (Test × Sum)) → LiteralAt bs p end t s ls → Q ks
         → R (ks ++ ((t, s) ∷ [])))
         → Scanned bs q end R
-    scan-step R follow grow n a b =
-        let h = here bs p end Q a more (s n a b) in
-        record {
-          done = h .done ++ ((h .test, h .sum) ∷ []);
-          left = h .left;
-          whole = h .whole ∙ sym (append-assoc (h .done) ((h .test, h .sum) ∷ []) (h .left));
-          next = follow (h .test) (h .sum) (h .left) (h .at);
-          so-far = grow (h .test) (h .sum) (h .left) (h .done) (h .at) (h .so-far);
-        }
+    scan-step R follow grow n a b = reached-next (s n a b) R more follow grow
 
     -- it ends here, whatever follows
     pub scan-ended : (R : Passed)
         → ((t : Test) (s : Sum) (ls ks : List (Test × Sum)) → LiteralAt bs p end t s ls → Q ks
         → R (ks ++ ((t, s) ∷ ls)))
-        → (n : ℕ) (a : Rule) → BodyOf bs end n a → R (literals-of a)
+        → WhicheverRule bs end (λ a. R (literals-of a))
     scan-ended R settle n a b =
-        let h = here bs p end Q a more (s n a b) in
-        subst R (sym (h .whole)) (settle (h .test) (h .sum) (h .left) (h .done) (h .at) (h .so-far))
+        let h = here (s n a b) more in
+        subst R (sym (h .whole)) (settle (h .test) (h .sum) (h .left) (h .passed) (h .at) (h .so-far))

@@ -15,12 +15,12 @@ use Rattle.rules.specs.Table.{count, nodes}
 use Rattle.rules.specs.Laws.{Each, WellFormed}
 use Rattle.rules.specs.Calls.{signed, words}
 use Rattle.rules.proofs.Sizes.{weight, before-sum, count-pos, weight-pos}
-use Rattle.tables.specs.Checks.{arities}
+use Rattle.tables.specs.Reads.{arities}
 use Rattle.tables.specs.Reads.{widths}
 use Rattle.tables.specs.Standing.{Stands, Standing, Few, StandingJoin, RightOf}
 use Rattle.tables.specs.declared.sides.Side.{Side}
 use Rattle.tables.proofs.WordLaws.{words-from, words-length}
-use Rattle.tables.proofs.WalkLaws.{part}
+use Rattle.tables.proofs.WordLaws.{part}
 use Rattle.tables.proofs.Standings.{under-not, under-bind, right, inside-entries, inside-bodies}
 use Rattle.tables.proofs.Inversion.{Shape, shape, constant, join, negation, literal, bind}
 use Rattle.tables.proofs.Parts.{few-part}
@@ -47,6 +47,9 @@ root-words (Bind q v a) = 2
 abbrev Kind : ℕ → Rule → Type 0
 Kind k a = (getD arities k 0 ≡ children a) × (getD widths k 0 ≡ root-words a)
 
+of-kind : {k m : ℕ} (a : Rule) → k ≡ m → Kind m a → Kind k a
+of-kind a i h = subst (λ (m : ℕ). Kind m a) (sym i) h
+
 module _ {es bs : List ℤ} {n p k : ℕ} where
   kind : (a : Rule) → Shape es bs n p k a → Kind k a
   unfolding before-sum
@@ -56,17 +59,15 @@ module _ {es bs : List ℤ} {n p k : ℕ} where
       low zero h = (refl, refl)
       low (suc zero) h = (refl, refl)
       low (suc (suc m)) h = absurd (omega arith)
-  kind a (join and b c i x) = subst (λ (m : ℕ). Kind m (Join and b c)) (sym i) (refl, refl)
-  kind a (join or b c i x) = subst (λ (m : ℕ). Kind m (Join or b c)) (sym i) (refl, refl)
-  kind a (negation b i x) = subst (λ (m : ℕ). Kind m (Not b)) (sym i) (refl, refl)
-  kind a (literal positive s i x) = subst (λ (m : ℕ). Kind m (Literal positive s)) (sym i) (refl, refl)
-  kind a (literal (divisible true d) s i x) =
-      subst (λ (m : ℕ). Kind m (Literal (divisible true d) s)) (sym i) (refl, refl)
-  kind a (literal (divisible false d) s i x) =
-      subst (λ (m : ℕ). Kind m (Literal (divisible false d) s)) (sym i) (refl, refl)
-  kind a (literal is-zero s i x) = subst (λ (m : ℕ). Kind m (Literal is-zero s)) (sym i) (refl, refl)
-  kind a (bind for-some v b i x y) = subst (λ (m : ℕ). Kind m (Bind for-some v b)) (sym i) (refl, refl)
-  kind a (bind for-all v b i x y) = subst (λ (m : ℕ). Kind m (Bind for-all v b)) (sym i) (refl, refl)
+  kind a (join and b c i x) = of-kind a i (refl, refl)
+  kind a (join or b c i x) = of-kind a i (refl, refl)
+  kind a (negation b i x) = of-kind a i (refl, refl)
+  kind a (literal positive s i x) = of-kind a i (refl, refl)
+  kind a (literal (divisible true d) s i x) = of-kind a i (refl, refl)
+  kind a (literal (divisible false d) s i x) = of-kind a i (refl, refl)
+  kind a (literal is-zero s i x) = of-kind a i (refl, refl)
+  kind a (bind for-some v b i x y) = of-kind a i (refl, refl)
+  kind a (bind for-all v b i x y) = of-kind a i (refl, refl)
 
 -- ---- from a rule to its last child
 

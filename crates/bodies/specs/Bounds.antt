@@ -11,7 +11,7 @@ use Rattle.rules.specs.Rule.{Test, positive}
 use Rattle.rules.specs.Steps.{bound-of, once}
 use Rattle.rules.specs.Calls.{signed}
 use Rattle.bodies.specs.Body.{BoundsAt}
-use Rattle.bodies.specs.Cursor.{across, Next, SomeLiteral}
+use Rattle.bodies.specs.Cursor.{across, LiteralAt, Reached, SomeLiteral}
 use Rattle.bodies.specs.declared.bound.Bound.{Bound}
 
 -- ---- the literals that give a bound
@@ -21,33 +21,23 @@ unfoldable pub GivesBound : ℕ → Test → Sum → Bool → Type 0
 GivesBound x t s true = (t ≡ positive) × (factor x s ≡ pos 1)
 GivesBound x t s false = bound-of x t s ≡ []
 
--- p is the place of the first of the literals `left`; of the literals ls those before give no bound
-pub record Reached (bs : List ℤ) (x p end : ℕ) (ls : List (Test × Sum)) : Type 0 where
-  pub passed : List (Test × Sum)
-  pub left : List (Test × Sum)
-  pub whole : ls ≡ passed ++ left
-  pub without : across (bound-of x) passed ≡ []
-  pub next : Next bs p end left
+-- none of some literals gives one; and the first of them does, where there is one
+abbrev pub NoneGives : ℕ → List (Test × Sum) → Type 0
+NoneGives x ls = across (bound-of x) ls ≡ []
 
 unfoldable pub FirstGives : ℕ → List (Test × Sum) → Type 0
 FirstGives x [] = Unit
 FirstGives x (l ∷ ls) = GivesBound x (l .0) (l .1) true
 
 -- p is the place of the first of the literals ls that gives a bound, or the end where none does
-pub record NextLower (bs : List ℤ) (x p end : ℕ) (ls : List (Test × Sum)) : Type 0 where
-  pub reached : Reached bs x p end ls
-  pub gives : FirstGives x (reached .left)
+abbrev pub NextLower : List ℤ → ℕ → ℕ → ℕ → List (Test × Sum) → Type 0
+NextLower bs x p end ls = Reached bs p end (NoneGives x) (FirstGives x) ls
 
 -- ---- a bound
 
 -- the same seven words stand behind the words at two places
 abbrev pub Alike : List ℤ → ℕ → ℕ → Type 0
 Alike bs p q = (i : ℕ) → 1 ≤ i → i < 8 → getD bs (p + i) (pos 0) ≡ getD bs (q + i) (pos 0)
-
--- the opposite of A, or A
-abbrev pub Unless : Bool → Type 0 → Type 0
-Unless true A = ¬ A
-Unless false A = A
 
 -- at its place is room for a literal, whose constant it has
 pub record OfLiteral (bs : List ℤ) (b : Bound) : Type 0 where
@@ -90,3 +80,10 @@ pub record SomeKept (bs : List ℤ) (p : ℕ) (bounds : List Bound) (places : Li
   pub kept : Kept bs setting bounds places k (once found)
   pub room : k < length bounds
   pub room-for-place : k < length places
+
+-- whatever the first k gave, with the bound of the literal at place p it is what the first r of the new lists give
+abbrev pub KeptWith : List ℤ → ℕ → List Bound → List ℕ → ℕ → List Bound → List ℕ → ℕ → Type 0
+KeptWith bs p bounds places k new-bounds new-places r =
+    (x end : ℕ) (t : Test) (s : Sum) (ls : List (Test × Sum)) (found : List Sum)
+    → LiteralAt bs p end t s ls → GivesBound x t s true
+    → Kept bs x bounds places k (once found) → Kept bs x new-bounds new-places r (once (found ++ bound-of x t s))

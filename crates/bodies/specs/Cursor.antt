@@ -12,7 +12,7 @@ use Rattle.rules.specs.Literals.{gather}
 use Rattle.rules.specs.Laws.{InTable}
 use Rattle.rules.proofs.Sizes.{before-sum, total}
 use Rattle.rules.proofs.Encoding.{AllGood}
-use Rattle.tables.proofs.Inversion.{BodyAt}
+use Rattle.tables.specs.Standing.{BodyAt}
 
 -- ---- literals
 
@@ -54,10 +54,23 @@ pub record LiteralAt (bs : List ℤ) (p end : ℕ) (t : Test) (s : Sum) (ls : Li
   pub formed : InTable t s
   pub behind : Remaining bs (p + (before-sum t + length s)) end ls
 
+-- what is said of every literal at place p
+abbrev pub WhicheverLiteral : List ℤ → ℕ → ℕ → (Test → Sum → List (Test × Sum) → Type 0) → Type 0
+WhicheverLiteral bs p end Q = (t : Test) (s : Sum) (ls : List (Test × Sum)) → LiteralAt bs p end t s ls → Q t s ls
+
 -- p is the place of the first of the literals ls, or the end where there is none
 unfoldable pub Next : List ℤ → ℕ → ℕ → List (Test × Sum) → Type 0
 Next bs p end [] = p ≡ end
 Next bs p end (l ∷ ls) = LiteralAt bs p end (l .0) (l .1) ls
+
+-- p is the place of the first of the literals `left`: of the literals ls, Q holds of those before it, and F of the rest
+pub record Reached (bs : List ℤ) (p end : ℕ) (Q F : List (Test × Sum) → Type 0) (ls : List (Test × Sum)) : Type 0 where
+  pub passed : List (Test × Sum)
+  pub left : List (Test × Sum)
+  pub whole : ls ≡ passed ++ left
+  pub next : Next bs p end left
+  pub so-far : Q passed
+  pub ahead : F left
 
 -- ---- what a function over the literals asks for
 

@@ -1,5 +1,4 @@
 pub mod Body
-pub mod Last
 pub mod Span
 pub mod Cursor
 pub mod Multiples

@@ -1,11 +1,12 @@
 // A lower bound, and a lent slice of them: read, written and searched.
 use tables::words;
 ghost use mathlib.Core.Path.{_≡_};
+ghost use mathlib.Core.Bool.{not};
 ghost use Prim.Native.Nat.{ℕ, _+_, _<_, _≤_};
 ghost use lib.ListN.{length, getD, set};
 ghost use Rattle.rules.specs.Rule.{Whether};
 ghost use Rattle.rules.specs.Calls.{words as words-of};
-ghost use Rattle.bodies.specs.Bounds.{Alike, Unless, none, OfLiteral, First};
+ghost use Rattle.bodies.specs.Bounds.{Alike, none, OfLiteral, First};
 
 // "A literal 0 < x+r gives the bound −r": where the literal stands, and the bits of its constant, by which most bounds
 // are told apart without a look at the table.
@@ -34,7 +35,7 @@ fn alike(bodies: &[u8], p: usize, q: usize) -> bool
 fn differ(bodies: &[u8], a: Bound, b: Bound) -> bool
     requires { ⌜ OfLiteral (words-of (now bodies)) a × OfLiteral (words-of (now bodies)) b
         × (length (words-of (now bodies)) ≤ 16384) ⌝ }
-    ensures { λ r. ⌜ Unless r (Alike (words-of (now (bodies .entry))) (a .place) (b .place)) ⌝ }
+    ensures { λ r. ⌜ Whether (not r) (Alike (words-of (now (bodies .entry))) (a .place) (b .place)) ⌝ }
 {
     if a.constant != b.constant {
         return true;

@@ -2,17 +2,12 @@
 use crate::bound;
 use crate::bound::Bound;
 use crate::lower;
-ghost use mathlib.Core.Bool.{true};
-ghost use mathlib.Core.List.{List, _++_};
-ghost use Prim.Native.Nat.{ℕ, _<_, _≤_};
+ghost use Prim.Native.Nat.{_<_, _≤_};
 ghost use lib.ListN.{length};
-ghost use Rattle.rules.specs.Sum.{Sum};
-ghost use Rattle.rules.specs.Rule.{Test, Rule};
-ghost use Rattle.rules.specs.Steps.{bound-of, once, bounds as bounds-of};
+ghost use Rattle.rules.specs.Steps.{bounds as bounds-of};
 ghost use Rattle.rules.specs.Calls.{words as words-of};
-ghost use Rattle.bodies.specs.Body.{BodyOf, SomeBody, BoundsAt, RoomForBounds};
-ghost use Rattle.bodies.specs.Cursor.{LiteralAt};
-ghost use Rattle.bodies.specs.Bounds.{GivesBound, Kept, SomeKept, Noted};
+ghost use Rattle.bodies.specs.Body.{SomeBody, WhicheverRule, BoundsAt, RoomForBounds};
+ghost use Rattle.bodies.specs.Bounds.{SomeKept, Noted, KeptWith};
 
 // Notes the place of a bound behind the first k, unless it is the same as bound i of them; and how many there are then.
 fn noted(places: &mut [u32], place: usize, i: usize, k: usize) -> usize
@@ -30,11 +25,8 @@ fn noted(places: &mut [u32], place: usize, i: usize, k: usize) -> usize
 // then.
 fn keep(bodies: &[u8], place: usize, bounds: &mut [Bound], places: &mut [u32], k: usize) -> usize
     requires { ⌜ SomeKept (words-of (now bodies)) place (now bounds) (now places) k ⌝ }
-    ensures { λ r. ⌜ ((x end : ℕ) (t : Test) (s : Sum) (ls : List (Test × Sum)) (found : List Sum)
-        → LiteralAt (words-of (now (bodies .entry))) place end t s ls → GivesBound x t s true
-        → Kept (words-of (now (bodies .entry))) x (now (bounds .entry)) (now (places .entry)) k (once found)
-        → Kept (words-of (now (bodies .entry))) x (now (bounds .exit)) (now (places .exit)) r
-        (once (found ++ bound-of x t s))) ⌝ }
+    ensures { λ r. ⌜ KeptWith (words-of (now (bodies .entry))) place (now (bounds .entry)) (now (places .entry)) k
+        (now (bounds .exit)) (now (places .exit)) r ⌝ }
 {
     let b = bound::of_literal(bodies, place);
     bound::put(bounds, k, b);
@@ -48,8 +40,8 @@ fn gather(bodies: &[u8], end: usize, x: usize, bounds: &mut [Bound], places: &mu
     requires { ⌜ SomeBody (words-of (now bodies)) end × (x ≤ 6)
         × RoomForBounds (words-of (now bodies)) end x (length (now bounds))
         × RoomForBounds (words-of (now bodies)) end x (length (now places)) ⌝ }
-    ensures { λ r. ⌜ ((n : ℕ) (a : Rule) → BodyOf (words-of (now (bodies .entry))) end n a
-        → BoundsAt (words-of (now (bodies .entry))) x (now (places .exit)) r (bounds-of x a)) ⌝ }
+    ensures { λ r. ⌜ WhicheverRule (words-of (now (bodies .entry))) end
+        (λ a. BoundsAt (words-of (now (bodies .entry))) x (now (places .exit)) r (bounds-of x a)) ⌝ }
 {
     let mut k: usize = 0;
     let mut place = lower::first(bodies, end, x);
@@ -65,8 +57,8 @@ fn gather(bodies: &[u8], end: usize, x: usize, bounds: &mut [Bound], places: &mu
 pub fn collect(bodies: &[u8], end: usize, x: usize, places: &mut [u32]) -> usize
     requires { ⌜ SomeBody (words-of (now bodies)) end × (1 ≤ x) × (x ≤ 6)
         × RoomForBounds (words-of (now bodies)) end x (length (now places)) ⌝ }
-    ensures { λ r. ⌜ ((n : ℕ) (a : Rule) → BodyOf (words-of (now (bodies .entry))) end n a
-        → BoundsAt (words-of (now (bodies .entry))) x (now (places .exit)) r (bounds-of x a)) ⌝ }
+    ensures { λ r. ⌜ WhicheverRule (words-of (now (bodies .entry))) end
+        (λ a. BoundsAt (words-of (now (bodies .entry))) x (now (places .exit)) r (bounds-of x a)) ⌝ }
 {
     let mut bounds = [Bound {
         place: 0,

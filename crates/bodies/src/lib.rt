@@ -1,7 +1,6 @@
-// Loops over the nodes of a rule in a table: where it ends, which quantifier is chosen, D, P and the lower bounds.
+// Loops over the nodes of a rule in a table: where it ends, D, P and the lower bounds.
 pub mod bound;
 pub mod bounds;
-pub mod chosen;
 pub mod cursor;
 pub mod lower;
 pub mod multiples;

@@ -4,17 +4,14 @@ use tables::reading;
 use tables::words;
 use whole::Multiple;
 ghost use mathlib.Core.Path.{_≡_};
-ghost use mathlib.Core.List.{List};
 ghost use Prim.Native.Nat.{ℕ, _<_, _≤_};
 ghost use lib.IntN.{natAbs};
 ghost use Rattle.whole.specs.Multiples.{lcms};
-ghost use Rattle.rules.specs.Sum.{Sum};
-ghost use Rattle.rules.specs.Rule.{Test, Rule};
 ghost use Rattle.rules.specs.Literals.{gather};
 ghost use Rattle.rules.specs.Steps.{common-factor as common-factor-of, period as period-of};
 ghost use Rattle.rules.specs.Calls.{signed, words as words-of};
-ghost use Rattle.bodies.specs.Body.{BodyOf, SomeBody, Bounded};
-ghost use Rattle.bodies.specs.Cursor.{LiteralAt, SomeLiteral};
+ghost use Rattle.bodies.specs.Body.{SomeBody, WhicheverRule, Bounded};
+ghost use Rattle.bodies.specs.Cursor.{WhicheverLiteral, SomeLiteral};
 ghost use Rattle.bodies.specs.Multiples.{brought};
 
 // The size of the number with these bits.
@@ -32,8 +29,8 @@ fn size(u: usize) -> usize
 // where it has none. Its sum is the last seven words of its body.
 fn part(bodies: &[u8], place: usize, x: usize) -> u32
     requires { ⌜ ((end : ℕ) × SomeLiteral (words-of (now bodies)) place end) × (x ≤ 6) ⌝ }
-    ensures { λ r. ⌜ ((end : ℕ) (t : Test) (s : Sum) (ls : List (Test × Sum))
-        → LiteralAt (words-of (now (bodies .entry))) place end t s ls → r ≡ lcms (brought x t s)) ⌝ }
+    ensures { λ r. ⌜ ((end : ℕ)
+        → WhicheverLiteral (words-of (now (bodies .entry))) place end (λ t s ls. r ≡ lcms (brought x t s))) ⌝ }
 {
     let width = reading::width(words::natural(bodies, place));
     if x == 0 {
@@ -52,8 +49,8 @@ fn part(bodies: &[u8], place: usize, x: usize) -> u32
 // The least common multiple of what the literals bring.
 fn multiple(bodies: &[u8], end: usize, x: usize) -> Multiple
     requires { ⌜ SomeBody (words-of (now bodies)) end × (x ≤ 6) ⌝ }
-    ensures { λ r. ⌜ ((n : ℕ) (a : Rule) → BodyOf (words-of (now (bodies .entry))) end n a
-        → Bounded (lcms (gather (brought x) a)) r) ⌝ }
+    ensures { λ r. ⌜ WhicheverRule (words-of (now (bodies .entry))) end
+        (λ a. Bounded (lcms (gather (brought x) a)) r) ⌝ }
 {
     let mut m: u32 = 1;
     let mut place = cursor::first(bodies, end);
@@ -71,8 +68,7 @@ fn multiple(bodies: &[u8], end: usize, x: usize) -> Multiple
 // "D is the least common multiple of the sizes of all nonzero x factors, 1 if none."
 pub fn common_factor(bodies: &[u8], end: usize, x: usize) -> Multiple
     requires { ⌜ SomeBody (words-of (now bodies)) end × (1 ≤ x) × (x ≤ 6) ⌝ }
-    ensures { λ r. ⌜ ((n : ℕ) (a : Rule) → BodyOf (words-of (now (bodies .entry))) end n a
-        → Bounded (common-factor-of x a) r) ⌝ }
+    ensures { λ r. ⌜ WhicheverRule (words-of (now (bodies .entry))) end (λ a. Bounded (common-factor-of x a) r) ⌝ }
 {
     multiple(bodies, end, x)
 }
@@ -80,8 +76,7 @@ pub fn common_factor(bodies: &[u8], end: usize, x: usize) -> Multiple
 // "P is the least common multiple of the divisors of all divisibility literals in the body, 1 if none."
 pub fn period(bodies: &[u8], end: usize) -> Multiple
     requires { ⌜ SomeBody (words-of (now bodies)) end ⌝ }
-    ensures { λ r. ⌜ ((n : ℕ) (a : Rule) → BodyOf (words-of (now (bodies .entry))) end n a
-        → Bounded (period-of a) r) ⌝ }
+    ensures { λ r. ⌜ WhicheverRule (words-of (now (bodies .entry))) end (λ a. Bounded (period-of a) r) ⌝ }
 {
     multiple(bodies, end, 0)
 }

@@ -12,7 +12,7 @@ ghost use Rattle.rules.specs.Table.{count};
 ghost use Rattle.rules.specs.Laws.{WellFormed};
 ghost use Rattle.rules.specs.Calls.{signed, words as words-of};
 ghost use Rattle.rules.proofs.Sizes.{weight};
-ghost use Rattle.tables.specs.Checks.{arities};
+ghost use Rattle.tables.specs.Reads.{arities};
 ghost use Rattle.tables.specs.Standing.{Stands, Standing, Few};
 ghost use Rattle.bodies.specs.Span.{EndsWith};
 

@@ -1,7 +1,7 @@
 -- `bound::differ` meets its contract: bounds whose constants differ are not alike, and the others are looked up.
 -- Assumes nothing.
 use borrow.Author.Needs.{needs}
-use Rattle.bodies.proofs.BoundLaws.{other-constants, unless-not}
+use Rattle.bodies.proofs.BoundLaws.{other-constants, whether-not}
 use Rattle.bodies.proofs.bound.differ.Statement.{statement}
 use Rattle.bodies.proofs.bound.differ.Tie as tie
 
@@ -22,7 +22,7 @@ alike-requires c κs =
     (pre .0 .inside, pre .1 .inside, pre .2)
 
 returns-2 : tie.Need-returns-2
-returns-2 c = unless-not _ (c .alike .result) (c .alike .ensures)
+returns-2 c = whether-not _ (c .alike .result) (c .alike .ensures)
 
 pub differ-spec : {M : Type 1} → statement M
 differ-spec = tie.close (tie.spec returns cast-alike cast-alike-2 alike-requires returns-2)

@@ -61,9 +61,12 @@ loop-again : tie.Need-loop-again Inv-loop μ-loop
 loop-again c =
     let read = c .before .before in
     let test = read .before in
-    let step = next-step _ _ _ (test .loop-test .taken) (read .natural .result) _ (read .natural .ensures .1) in
     let inv = test .before .loop .inv in
-    (omega (arith, inv .0), λ ls r. step (c .before .width .ensures .0) (omega (arith, c .if1 .left)) ls (inv .1 ls r))
+    let narrow : c .before .width .result ≤ 7 = omega (arith, c .if1 .left) in (
+      omega (arith, inv .0),
+      λ ls r. next-step _ _ _ (test .loop-test .taken) (read .natural .result) _ (read .natural .ensures .1)
+          (c .before .width .ensures .0) narrow ls (inv .1 ls r),
+    )
 
 returns-2 : tie.Need-returns-2 Inv-loop μ-loop
 returns-2 c =

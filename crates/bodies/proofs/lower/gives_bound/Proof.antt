@@ -2,7 +2,7 @@
 -- Assumes nothing.
 use native.Mathlib.Omega.{arith}
 use Rattle.bodies.proofs.CursorLaws.{literal-eight}
-use Rattle.bodies.proofs.BoundLaws.{gives-none, gives-factor}
+use Rattle.bodies.proofs.LowerLaws.{gives-none, gives-factor}
 use Rattle.bodies.proofs.lower.gives_bound.Statement.{statement}
 use Rattle.bodies.proofs.lower.gives_bound.Tie as tie
 

@@ -7,22 +7,24 @@ use native.Mathlib.Omega.{arith}
 use Rattle.rules.specs.Sum.{Sum}
 use Rattle.rules.specs.Rule.{Test}
 use Rattle.rules.specs.Calls.{words}
-use Rattle.bodies.specs.Cursor.{Next}
-use Rattle.bodies.specs.Bounds.{GivesBound, Reached}
-use Rattle.bodies.proofs.LowerLaws.{reached-start, reached-here, reached-step, reached-lower, reached-end}
+use Rattle.bodies.specs.Cursor.{Next, Reached}
+use Rattle.bodies.specs.Bounds.{GivesBound, NoneGives}
+use Rattle.bodies.proofs.ScanLaws.{Anything, reached-here}
+use Rattle.bodies.proofs.LowerLaws.{lower-start, lower-step, lower-found, lower-end}
 use Rattle.bodies.proofs.lower.next_lower.Statement.{statement}
 use Rattle.bodies.proofs.lower.next_lower.Tie as tie
 
 abbrev Inv-loop : tie.InvT-loop
 Inv-loop bodies from end x place₀ place =
     (from ≤ place)
-    × ((ls : List (Test × Sum)) → Next (words bodies) from end ls → Reached (words bodies) x place end ls)
+    × ((ls : List (Test × Sum)) → Next (words bodies) from end ls
+    → Reached (words bodies) place end (NoneGives x) Anything ls)
 
 abbrev μ-loop : tie.MeasureT-loop
 μ-loop bodies from end x place₀ place = end - place
 
 loop-holds : tie.Need-loop-holds Inv-loop μ-loop
-loop-holds c = (omega arith, λ ls n. reached-start n)
+loop-holds c = (omega arith, λ ls n. lower-start _ n)
 
 gives-bound-requires : tie.Need-gives-bound-requires Inv-loop μ-loop
 gives-bound-requires c κs =
@@ -34,7 +36,7 @@ returns : tie.Need-returns Inv-loop μ-loop
 returns c =
     let inv = c .before .before .before .loop .inv in (
       inv .0,
-      λ ls n. reached-lower (inv .1 ls n)
+      λ ls n. lower-found _ (inv .1 ls n)
           (λ t s ls l. subst (GivesBound _ t s) (c .if1 .taken) (c .before .gives-bound .ensures _ t s ls l)),
     )
 
@@ -53,14 +55,14 @@ loop-again c =
     let gives = c .before .before .gives-bound .ensures in
     let inv = test .before .loop .inv in (
       omega (arith, inv .0, c .following .ensures .0),
-      λ ls n. reached-step (inv .1 ls n) (test .loop-test .taken)
+      λ ls n. lower-step _ (inv .1 ls n) (test .loop-test .taken)
           (λ t s ls l. subst (GivesBound _ t s) (c .before .if1 .left) (gives _ t s ls l)) (c .following .ensures .1),
     )
 
 returns-2 : tie.Need-returns-2 Inv-loop μ-loop
 returns-2 c =
     let inv = c .before .loop .inv in
-    (inv .0, λ ls n. reached-end (inv .1 ls n) (omega (arith, c .loop-test .left)))
+    (inv .0, λ ls n. lower-end _ (inv .1 ls n) (omega (arith, c .loop-test .left)))
 
 pub next-lower-spec : {M : Type 1} → statement M
 next-lower-spec =

@@ -6,13 +6,13 @@ use borrow.Author.Needs.{needs}
 use Rattle.rules.specs.Eliminate.{most-period}
 use Rattle.rules.specs.Calls.{words}
 use Rattle.bodies.proofs.ScanLaws.{Scanned, scan-start, scan-here, scan-step, scan-ended, scan-over}
-use Rattle.bodies.proofs.MultipleLaws.{Reached, Past, reached-none, grown, small, past}
+use Rattle.bodies.proofs.MultipleLaws.{IsMultiple, Past, multiple-none, grown, small, past}
 use Rattle.bodies.proofs.MultipleLaws.{answer-least, answer-over}
 use Rattle.bodies.proofs.multiples.multiple.Statement.{statement}
 use Rattle.bodies.proofs.multiples.multiple.Tie as tie
 
 abbrev Inv-loop : tie.InvT-loop
-Inv-loop bodies end x m₀ place₀ m place = (m ≤ most-period) × Scanned (words bodies) place end (Reached x m)
+Inv-loop bodies end x m₀ place₀ m place = (m ≤ most-period) × Scanned (words bodies) place end (IsMultiple x m)
 
 abbrev μ-loop : tie.MeasureT-loop
 μ-loop bodies end x m₀ place₀ m place = end - place
@@ -21,7 +21,7 @@ first-requires : tie.Need-first-requires Inv-loop μ-loop
 first-requires c κs = c .before .pre .0
 
 loop-holds : tie.Need-loop-holds Inv-loop μ-loop
-loop-holds c = (omega arith, scan-start _ (reached-none _) (c .first .ensures))
+loop-holds c = (omega arith, scan-start _ (multiple-none _) (c .first .ensures))
 
 part-requires : tie.Need-part-requires Inv-loop μ-loop
 part-requires c κs =
