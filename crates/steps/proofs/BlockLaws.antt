@@ -15,16 +15,18 @@ use Rattle.rules.specs.Sum.{Sum, factor, add, number, limit, all-within}
 use Rattle.rules.specs.Rule.{Rule}
 use Rattle.rules.specs.Fold.{fold}
 use Rattle.rules.specs.Steps.{bounds}
+use Rattle.rules.specs.Eliminate.{most-period}
 use Rattle.rules.proofs.Sums.{factor-add, length-add}
-use Rattle.bodies.specs.Body.{BoundAt, BoundsAt}
+use Rattle.bodies.specs.Body.{BoundAt}
 use Rattle.judging.proofs.SaidLaws.{settled-is}
 use Rattle.judging.proofs.ShiftLaws.{zero-number}
 use Rattle.literals.specs.Changes.{InRange}
 use Rattle.walks.specs.Walk.{changed}
 use Rattle.steps.specs.Put.{SomeBound}
 use Rattle.judging.specs.Judging.{bit, Says, put-into, at-sum, Judging, SomeJudging}
-use Rattle.steps.specs.Blocks.{BodyThere, SomeBodyThere, SomeBodyBounds, far-at, full-at, Judges, FalseWhere}
-use Rattle.steps.specs.Blocks.{FalseAtBounds}
+use Rattle.tables.specs.Standing.{RuleAt}
+use Rattle.steps.specs.There.{SomeRuleThere}
+use Rattle.steps.specs.Blocks.{BodyBounds, SomeBodyBounds, far-at, full-at, Judges, FalseWhere, FalseAtBounds}
 use Rattle.steps.proofs.SumLaws.{bound-seven, bound-within}
 
 -- ---- what a bit says
@@ -45,7 +47,8 @@ bit-tested mask k = ap (λ (x : ℕ). eqb x 1) (and-mask (mask / 2 ^ k) 1)
 pub none-added : (b : Sum) → length b ≡ 7 → add b (number (pos 0)) ≡ b
 none-added b seven = ext-getD (pos 0) (add b (number (pos 0))) b
     (length-add b (number (pos 0)) seven ∙ sym seven)
-    (λ i h. factor-add i b (number (pos 0)) ∙ ap (λ (z : ℤ). factor i b +ℤ z) (zero-number i) ∙ +ℤ-idr (factor i b))
+    (λ i inside.
+    factor-add i b (number (pos 0)) ∙ ap (λ (z : ℤ). factor i b +ℤ z) (zero-number i) ∙ +ℤ-idr (factor i b))
 
 pub far-same : (x : ℕ) (u : Sum) → u ≡ number (pos 0) → (m : ℕ) (a : Rule) → at-sum true x u m a ≡ far-at x a m
 unfolding at-sum put-into add changed
@@ -60,88 +63,90 @@ pub same-sum : {bs : List ℤ} {x q : ℕ} (bound : Sum) → BoundAt bs x q boun
     → u ≡ add bound (number (pos 0)) → InRange x → u ≡ bound
 same-sum bound at u is range = is ∙ none-added bound (bound-seven at range)
 
-module _ {es bs : List ℤ} {n p x j : ℕ} where
-  judging-of : {a : Rule} → BodyThere es bs n p x j a → (u : Sum) → length u ≡ 7 → T (all-within limit u)
+module _ {es bs : List ℤ} {n p x j : ℕ} (upto : j ≤ most-period) where
+  judging-of : {a : Rule} → RuleAt es bs n p a → InRange x → (u : Sum) → length u ≡ 7 → T (all-within limit u)
       → Judging es bs n p x u j a
-  judging-of there u seven within = record {
-    stands = there .stands;
-    few = there .few;
-    formed = there .formed;
-    setting = there .setting;
-    seven = seven;
-    within = within;
-    upto = there .upto;
+  judging-of there setting u seven within = record {
+    at = there;
+    setting = setting;
+    sum = record { seven = seven; within = within };
+    upto = upto;
   }
 
   -- the far-left body
-  module _ (u : Sum) (is : u ≡ number (pos 0)) where
-    pub far-judging : {a : Rule} → BodyThere es bs n p x j a → Judging es bs n p x u j a
+  module _ (setting : InRange x) (u : Sum) (is : u ≡ number (pos 0)) where
+    pub far-judging : {a : Rule} → RuleAt es bs n p a → Judging es bs n p x u j a
     unfolding all-within
-    far-judging there = judging-of there u (ap length is) (subst (λ (s : Sum). T (all-within limit s)) (sym is) tt)
+    far-judging there =
+        judging-of there setting u (ap length is) (subst (λ (s : Sum). T (all-within limit s)) (sym is) tt)
 
-    pub some-far-judging : SomeBodyThere es bs n p x j → SomeJudging es bs n p x u j
+    pub some-far-judging : SomeRuleThere es bs n p → SomeJudging es bs n p x u j
     some-far-judging some = record { rule = some .rule; judging = far-judging (some .there) }
 
     pub far-judged : (trues falses : ℕ)
         → ((a : Rule) (k : ℕ) → Judging es bs n p x u j a → k < 64 → Says trues falses k (at-sum true x u (j + k) a))
-        → (a : Rule) → BodyThere es bs n p x j a → Judges trues falses j (far-at x a)
+        → (a : Rule) → RuleAt es bs n p a → Judges trues falses j (far-at x a)
     far-judged trues falses says a there k inside =
         subst (Says trues falses k) (far-same x u is (j + k) a) (says a k (far-judging there) inside)
 
   -- the full one
-  module _ {q : ℕ} (bound : Sum) (at : BoundAt bs x q bound) (u : Sum) (is : u ≡ add bound (number (pos 0))) where
-    pub full-judging : {a : Rule} → BodyThere es bs n p x j a → Judging es bs n p x u j a
+  module _ (setting : InRange x) {q : ℕ} (bound : Sum) (at : BoundAt bs x q bound) (u : Sum)
+      (is : u ≡ add bound (number (pos 0))) where
+    pub full-judging : {a : Rule} → RuleAt es bs n p a → Judging es bs n p x u j a
     full-judging there =
-        let same = same-sum bound at u is (there .setting) in
-        judging-of there u (ap length same ∙ bound-seven at (there .setting))
+        let same = same-sum bound at u is setting in
+        judging-of there setting u (ap length same ∙ bound-seven at setting)
         (subst (λ (s : Sum). T (all-within limit s)) (sym same) (bound-within at))
 
-    pub some-full-judging : SomeBodyThere es bs n p x j → SomeJudging es bs n p x u j
+    pub some-full-judging : SomeRuleThere es bs n p → SomeJudging es bs n p x u j
     some-full-judging some = record { rule = some .rule; judging = full-judging (some .there) }
 
     pub full-judged : (trues falses : ℕ)
         → ((a : Rule) (k : ℕ) → Judging es bs n p x u j a → k < 64 → Says trues falses k (at-sum false x u (j + k) a))
-        → (a : Rule) → BodyThere es bs n p x j a → Judges trues falses j (full-at x a bound)
+        → (a : Rule) → RuleAt es bs n p a → Judges trues falses j (full-at x a bound)
     full-judged trues falses says a there k inside =
-        subst (Says trues falses k) (full-same x (same-sum bound at u is (there .setting)) (j + k) a)
+        subst (Says trues falses k) (full-same x (same-sum bound at u is setting) (j + k) a)
         (says a k (full-judging there) inside)
+
+-- what the judging of bound i asks for
+pub bound-asks : {es bs : List ℤ} {n p x j : ℕ} {places : List ℕ} {k i q : ℕ} → SomeBodyBounds es bs n p x places k
+    → i < k → q ≡ getD places i 0 → j ≤ most-period
+    → SomeRuleThere es bs n p × SomeBound bs x q × (j ≤ most-period)
+bound-asks {bs = bs} {x = x} {i = i} some inside is upto =
+    let body = some .body in
+    let bound = getD (bounds x (some .rule)) i [] in (
+      record { rule = some .rule; there = body .there },
+      record {
+        bound = bound;
+        at = subst (λ (r : ℕ). BoundAt bs x r bound) (sym is) (body .bounds-at .each i inside);
+        few = omega (arith, body .there .few .few-words);
+        setting = body .setting;
+      },
+      upto,
+    )
 
 -- ---- a mask for each bound: those before bound i are there
 
 abbrev pub FalseBefore : (es bs : List ℤ) (n p x j : ℕ) (places : List ℕ) (k : ℕ) (masks : List ℕ) (i : ℕ) → Type 0
-FalseBefore es bs n p x j places k masks i = (a : Rule) → BodyThere es bs n p x j a
-    → BoundsAt bs x places k (bounds x a) → FalseAtBounds masks x j i a
+FalseBefore es bs n p x j places k masks i =
+    (a : Rule) → BodyBounds es bs n p x places k a → FalseAtBounds masks x j i a
 
-module _ {es bs : List ℤ} {n p x j : ℕ} {places : List ℕ} {k : ℕ} where
+module _ {es bs : List ℤ} {n p x : ℕ} (j : ℕ) {places : List ℕ} {k : ℕ} where
   pub no-mask-yet : (masks : List ℕ) → FalseBefore es bs n p x j places k masks 0
-  no-mask-yet masks a there bounds-at i h = absurd (omega (arith, h))
+  no-mask-yet masks a body i before = absurd (omega (arith, before))
 
   pub every-mask : (masks : List ℕ) (i : ℕ) → k ≤ i → FalseBefore es bs n p x j places k masks i
       → FalseBefore es bs n p x j places k masks k
-  every-mask masks i all done a there bounds-at m h = done a there bounds-at m (omega (arith, all, h))
+  every-mask masks i all done a body m inside = done a body m (omega (arith, all, inside))
 
-  -- what the next bound's judging asks for
-  pub bound-asks : {i q : ℕ} → SomeBodyBounds es bs n p x j places k → i < k → q ≡ getD places i 0
-      → SomeBodyThere es bs n p x j × SomeBound bs x q
-  bound-asks {i} {q} some inside is = (
-    record { rule = some .rule; there = some .there },
-    record {
-      bound = getD (bounds x (some .rule)) i [];
-      at = subst (λ (r : ℕ). BoundAt bs x r (getD (bounds x (some .rule)) i [])) (sym is)
-          (some .bounds-at .each i inside);
-      few = omega (arith, some .there .few .few-words);
-      setting = some .there .setting;
-    },
-  )
-
-  -- and its mask
+  -- the mask of the next bound
   pub one-mask-more : (masks after : List ℕ) {i q : ℕ} (trues falses : ℕ) → after ≡ set masks i falses
       → i < k → k ≤ length masks → q ≡ getD places i 0
-      → ((a : Rule) (bound : Sum) → BodyThere es bs n p x j a → BoundAt bs x q bound
+      → ((a : Rule) (bound : Sum) → RuleAt es bs n p a → BoundAt bs x q bound
       → Judges trues falses j (full-at x a bound))
       → FalseBefore es bs n p x j places k masks i
       → FalseBefore es bs n p x j places k after (i + 1)
-  one-mask-more masks after {i} {q} trues falses made inside long is judges done a there bounds-at m h =
+  one-mask-more masks after {i} {q} trues falses made inside long is judges done a body m upto =
       subst (λ (l : List ℕ). FalseWhere (getD l m 0) j (full-at x a (getD (bounds x a) m []))) (sym made)
       (by (ℕ-discrete m i))
     where
@@ -150,7 +155,8 @@ module _ {es bs : List ℤ} {n p x j : ℕ} {places : List ℕ} {k : ℕ} where
 
       here : FalseWhere falses j (full-at x a bound)
       here = judged-false trues falses j (full-at x a bound)
-          (judges a bound there (subst (λ (r : ℕ). BoundAt bs x r bound) (sym is) (bounds-at .each i inside)))
+          (judges a bound (body .there)
+          (subst (λ (r : ℕ). BoundAt bs x r bound) (sym is) (body .bounds-at .each i inside)))
 
       by : Dec (m ≡ i) → FalseWhere (getD (set masks i falses) m 0) j (full-at x a (getD (bounds x a) m []))
       by (yes e) =
@@ -158,4 +164,4 @@ module _ {es bs : List ℤ} {n p x j : ℕ} {places : List ℕ} {k : ℕ} where
           (subst (λ (mask : ℕ). FalseWhere mask j (full-at x a bound))
           (sym (getD-set-same masks i falses 0 (omega (arith, inside, long)))) here)
       by (no f) = subst (λ (mask : ℕ). FalseWhere mask j (full-at x a (getD (bounds x a) m [])))
-          (sym (getD-set-other masks i m falses 0 f)) (done a there bounds-at m (omega (arith, h, f)))
+          (sym (getD-set-other masks i m falses 0 f)) (done a body m (omega (arith, upto, f)))

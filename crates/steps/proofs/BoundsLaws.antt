@@ -14,8 +14,7 @@ use Rattle.rules.specs.Rule.{Rule}
 use Rattle.rules.specs.Table.{Node, most-words}
 use Rattle.rules.specs.Steps.{bounds, body-at}
 use Rattle.rules.specs.Eliminate.{most-period}
-use Rattle.rules.proofs.Shapes.{nears}
-use Rattle.rules.proofs.Disjuncts.{fold-any}
+use Rattle.rules.proofs.Disjuncts.{nears, fold-any}
 use Rattle.builder.specs.declared.push.State.{State}
 use Rattle.folding.specs.Answers.{Gives}
 use Rattle.folding.specs.declared.answers.Folded.{Folded}
@@ -34,9 +33,9 @@ use Rattle.steps.proofs.DisjunctionLaws.{regrouped, next, one-more}
 pub made-at : {A B : Type 0} (f : A → B) (none : A) (l : List A) (i : ℕ) → i < length l
     → (take (suc i) (map f l) ≡ take i (map f l) ++ (f (getD l i none) ∷ []))
     × (drop i (map f l) ≡ f (getD l i none) ∷ drop (suc i) (map f l))
-made-at f none [] i h = absurd (omega arith)
-made-at f none (a ∷ l) zero h = (refl, refl)
-made-at f none (a ∷ l) (suc i) h =
+made-at f none [] i inside = absurd (omega arith)
+made-at f none (a ∷ l) zero inside = (refl, refl)
+made-at f none (a ∷ l) (suc i) inside =
     let rest = made-at f none l i (omega arith) in (ap (λ (k : List _). f a ∷ k) (rest .0), rest .1)
 
 -- the full bodies from bound m on are answered, in front of those that were before
@@ -78,8 +77,8 @@ module _ {es bs : List ℤ} {n p x j at-bit : ℕ} {places masks : List ℕ} {k 
     bound-there = start .bounds-at .each i inside
 
     sum-usable : Usable (Full x) sum-at-i
-    sum-usable = above-usable bound-at-i bound-there j (start .disjoined .setting)
-        (omega (arith, start .upto, start .disjoined .period-fits .1))
+    sum-usable = above-usable bound-at-i bound-there j (start .disjoined .of .setting)
+        (omega (arith, start .upto, start .disjoined .of .period-fits .1))
 
     body-there : (take (suc i) (nears x a j) ≡ take i (nears x a j) ++ (changed (Full x) sum-at-i a ∷ []))
         × (drop i (nears x a j) ≡ changed (Full x) sum-at-i a ∷ drop (suc i) (nears x a j))
@@ -124,11 +123,11 @@ module _ {es bs : List ℤ} {n p x j at-bit : ℕ} {places masks : List ℕ} {k 
         (subst (λ (y : ℕ). bit y at-bit ≡ 1) is-mask (bit-told mask at-bit is-told e))
 
     pub full-asks : SomeAtBounds es bs n p x j at-bit places masks k ws b so-far
-        → (j ≤ most-period) × SomeFull es bs n p x j q told vs b f
+        → (j ≤ most-period) × SomeFull es bs n p x j told vs b f q
     full-asks start =
         let known = start .at-bounds in
         let a = start .rule in (
-          omega (arith, known .upto, known .disjoined .period-fits .1),
+          omega (arith, known .upto, known .disjoined .of .period-fits .1),
           record {
             bound = getD (bounds x a) (m - 1) [];
             at = subst (λ (r : ℕ). BoundAt bs x r (getD (bounds x a) (m - 1) [])) (sym there)

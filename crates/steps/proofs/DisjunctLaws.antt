@@ -7,29 +7,22 @@ use Prim.Native.Nat.{ℕ, _≤_}
 use native.Mathlib.Omega.{arith}
 use lib.IntN.{ℤ}
 use lib.ListN.{length}
-use Rattle.rules.specs.Sum.{Sum, setting}
+use Rattle.rules.specs.Sum.{Sum}
 use Rattle.rules.specs.Rule.{or, Rule, False}
 use Rattle.rules.specs.Table.{Node, most-words}
-use Rattle.rules.specs.Calls.{words}
 use Rattle.rules.specs.Fold.{side, fold-sides, fold-join, fold}
 use Rattle.rules.proofs.Disjuncts.{fold-any}
-use Rattle.tables.proofs.WordLaws.{words-length}
 use Rattle.builder.specs.Built.{Built, junction}
 use Rattle.builder.specs.declared.push.State.{State}
 use Rattle.folding.specs.Answers.{Gives, Sides, SomeSides, after, built-then, settled}
 use Rattle.folding.specs.declared.answers.Folded.{Folded}
-use Rattle.folding.proofs.AnswerLaws.{says-of, built-of, total-then, settled-join, some-sides-of}
+use Rattle.folding.proofs.AnswerLaws.{built-of, total-then, settled-join, some-sides-of}
 use Rattle.literals.specs.Changes.{Fair}
-use Rattle.walks.specs.Walk.{changed, Ready, SomeReady}
-use Rattle.walks.proofs.FoldLaws.{changed-lighter}
+use Rattle.walks.specs.Walk.{changed, Ready, SomeRule}
+use Rattle.walks.proofs.ChangedLaws.{changed-lighter}
 use Rattle.steps.specs.Disjoining.{Disjunct, SomeDisjunct, SomeFull}
 use Rattle.steps.specs.Put.{SomeBound}
 use Rattle.literals.specs.declared.change.Change.{Change}
-
--- ---- a buffer keeps its room
-
-pub same-room : (l m : List ℕ) → length m ≡ length l → length (words l) ≤ most-words → length (words m) ≤ most-words
-same-room l m kept room = omega (arith, room, words-length m, words-length l, kept)
 
 -- ---- one more disjunct
 
@@ -42,15 +35,15 @@ module _ {es bs : List ℤ} {n p : ℕ} {c : Change} {u : Sum} {ws : List ℤ} {
 
   pub disjunct-ready : (s : State) → s ≡ after b others → Ready es bs n p c u ws s a (built-then ds (fold-any l) others)
   disjunct-ready s e = record {
-    stands = d .stands;
-    few = d .few;
-    formed = d .formed;
+    at = d .there;
     usable = d .usable;
     numbers = d .numbers;
-    built = subst (λ (t : State). Built ws t (built-then ds (fold-any l) others)) (sym e)
-        (built-of ws b ds (fold-any l) others (d .gives));
-    small = omega (arith, d .small, total-then ds (fold-any l) others);
-    room = d .room;
+    building = record {
+      built = subst (λ (t : State). Built ws t (built-then ds (fold-any l) others)) (sym e)
+          (built-of ws b ds (fold-any l) others (d .gives));
+      small = omega (arith, d .small, total-then ds (fold-any l) others);
+      room = d .room;
+    };
   }
 
   -- the body is answered too, from the state s on, and the words vs are left
@@ -59,20 +52,20 @@ module _ {es bs : List ℤ} {n p : ℕ} {c : Change} {u : Sum} {ws : List ℤ} {
       (gives : Gives vs s (built-then ds (fold-any l) others) (fold (changed c u a)) answered) where
     pub disjunct-sides : Sides vs false b ds (fold-any l) (fold (changed c u a)) others answered
     disjunct-sides = record {
-      unsettled = more;
       counted = d .counted;
-      counted-then = built-of ws b ds (fold-any l) others (d .gives) .counted;
-      first = says-of ws b ds (fold-any l) others (d .gives);
+      between = ws;
+      first = d .gives;
+      unsettled = more;
       second = subst (λ (t : State). Gives vs t (built-then ds (fold-any l) others) (fold (changed c u a)) answered)
           starts gives;
     }
 
     pub disjunct-joins : length vs ≤ most-words → SomeSides vs false b others answered
     disjunct-joins room = some-sides-of vs false b ds (fold-any l) (fold (changed c u a)) others answered disjunct-sides
-        (omega (arith, d .small, changed-lighter c u a (d .usable) (d .formed))) room
+        (omega (arith, d .small, changed-lighter c u a (d .usable) (d .there .formed))) room
 
 pub some-disjunct-ready : {es bs : List ℤ} {n p : ℕ} {c : Change} {u : Sum} {ws : List ℤ} {b : State} {others : Folded}
-    → SomeDisjunct es bs n p c u ws b others → (s : State) → s ≡ after b others → SomeReady es bs n p c u ws s
+    → SomeDisjunct es bs n p c u ws b others → (s : State) → s ≡ after b others → SomeRule (Ready es bs n p c u ws s)
 some-disjunct-ready {others = others} some s e = record {
   rule = some .rule;
   tail = built-then (some .tail) (fold-any (some .others)) others;
@@ -83,14 +76,14 @@ some-disjunct-ready {others = others} some s e = record {
 pub false-disjunct : (ws : List ℤ) (b : State) (ds : List Node) (d : Rule) (l : List Rule) (f : Folded)
     → fold d ≡ False → Gives ws b ds (fold-any l) f → Gives ws b ds (fold-any (d ∷ l)) f
 unfolding fold-any fold-join side fold-sides
-false-disjunct ws b ds d l f e h =
-    subst (λ (r : Rule). Gives ws b ds (fold-join or r (fold-any l)) f) (sym e) h
+false-disjunct ws b ds d l f is-false gives =
+    subst (λ (r : Rule). Gives ws b ds (fold-join or r (fold-any l)) f) (sym is-false) gives
 
 -- the join of the new disjunct and of those that are answered
 pub disjunct-answered : (vs : List ℤ) (b : State) (ds : List Node) (d : Rule) (l : List Rule) (r : Folded)
     → Gives vs b ds (fold-join (junction false) (fold d) (fold-any l)) r → Gives vs b ds (fold-any (d ∷ l)) r
 unfolding fold-any junction
-disjunct-answered vs b ds d l r h = h
+disjunct-answered vs b ds d l r gives = gives
 
 -- ---- the sum that the code makes is the one that is meant
 
@@ -109,10 +102,10 @@ module _ {es bs : List ℤ} {n p : ℕ} {c : Change} {ws : List ℤ} {b : State}
 
 -- what is asked to read a bound
 pub some-bound : {es bs : List ℤ} {n p x j q : ℕ} {told : Bool} {ws : List ℤ} {b : State} {others : Folded}
-    → SomeFull es bs n p x j q told ws b others → SomeBound bs x q
+    → SomeFull es bs n p x j told ws b others q → SomeBound bs x q
 some-bound f = record {
   bound = f .bound;
   at = f .at;
-  few = omega (arith, f .some .disjunct .few .few-words);
+  few = omega (arith, f .some .disjunct .there .few .few-words);
   setting = unfold Fair in f .some .disjunct .usable .fair;
 }

@@ -2,27 +2,23 @@
 -- Assumes nothing.
 use mathlib.Core.Path.{_≡_, refl, sym, ap, _∙_, subst}
 use mathlib.Core.Logic.{inl, inr}
-use mathlib.Core.Bool.{Bool, true, false, not}
+use mathlib.Core.Bool.{false, not}
 use mathlib.Core.List.{List, [], _∷_, _++_, append-nil, append-assoc}
-use Prim.Native.Nat.{ℕ, suc, _+_, _*_, _<_, _≤_}
-use native.Mathlib.Nat.{mul-le-mul}
+use Prim.Native.Nat.{ℕ, _+_, _*_, _≤_}
 use native.Mathlib.Omega.{arith}
-use lib.Dec.{T, T-not}
-use lib.IntN.{ℤ, pos}
-use lib.ListN.{length, getD, length-append}
-use Rattle.whole.proofs.Lists.{All, Any, all-imp, all-append, all-map, any-append}
-use Rattle.rules.specs.Sum.{Sum, add, put, number}
+use lib.Dec.{T, T-not, not-T}
+use lib.IntN.{ℤ}
+use lib.ListN.{length, length-append}
+use Rattle.whole.proofs.Lists.{All, Any, all-append, any-append}
+use Rattle.rules.specs.Sum.{Sum}
 use Rattle.rules.specs.Rule.{Rule}
 use Rattle.rules.specs.Table.{Node, most-words}
 use Rattle.rules.specs.Literals.{some-literal}
-use Rattle.rules.specs.Steps.{bounds, body-at, for-each, disjuncts, any-of, disjunction}
-use Rattle.rules.specs.Eliminate.{over-limit, most-period}
+use Rattle.rules.specs.Steps.{bounds, for-each, disjuncts, any-of, disjunction}
+use Rattle.rules.specs.Eliminate.{over-limit}
 use Rattle.rules.proofs.Sizes.{weight}
-use Rattle.rules.proofs.Shapes.{Seven, seven-negate, seven-add, seven-put, all-for-each, fars, nears}
-use Rattle.rules.proofs.Weights.{body-lighter, far-body-lighter}
-use Rattle.rules.proofs.DisjunctNumbers.{any-of-some}
-use Rattle.rules.proofs.Disjuncts.{fold-any, any-lighter, length-disjuncts}
-use Rattle.tables.proofs.Standings.{inside-bodies}
+use Rattle.rules.proofs.Disjuncts.{fold-any, length-disjuncts, fars, nears, any-of-some}
+use Rattle.rules.proofs.Weights.{any-lighter}
 use Rattle.builder.specs.declared.push.State.{State}
 use Rattle.builder.proofs.BuiltLaws.{length-unplaced}
 use Rattle.folding.specs.Answers.{Gives}
@@ -30,22 +26,19 @@ use Rattle.folding.specs.declared.answers.Folded.{Folded}
 use Rattle.folding.specs.declared.answers.Folded.the-variants.{Known}
 use Rattle.literals.specs.Changes.{Usable}
 use Rattle.walks.specs.Walk.{changed}
+use Rattle.steps.proofs.ThereLaws.{table-words}
 use Rattle.steps.proofs.DisjunctionWeights.{all-lighter, all-counted}
-use Rattle.steps.specs.Disjoining.{most-made, Disjunct, Disjoining, Disjoined}
+use Rattle.steps.specs.Disjoining.{Disjunct, Disjoining, Disjoined}
 use Rattle.literals.specs.declared.change.Change.{Change}
 
 -- ---- no number of a disjunct passes the limit
 
-neither : (c : Bool) → ¬ T c → T (not c)
-neither true f = absurd (f tt)
-neither false f = tt
-
 one-fits : (k : List Rule) (d : Rule) (l : List Rule) → T (not (some-literal over-limit (any-of (k ++ (d ∷ l)))))
     → T (not (some-literal over-limit d))
 unfolding Any
-one-fits k d l h =
+one-fits k d l fits =
     let among = any-append (λ e. T (some-literal over-limit e)) k (d ∷ l) in
-    neither (some-literal over-limit d) (λ over. T-not (some-literal over-limit (any-of (k ++ (d ∷ l)))) h
+    not-T (some-literal over-limit d) (λ over. T-not (some-literal over-limit (any-of (k ++ (d ∷ l)))) fits
     (any-of-some over-limit (k ++ (d ∷ l)) .1 (among .1 (inr (inl over)))))
 
 -- ---- the next disjunct
@@ -54,34 +47,27 @@ module _ {es bs : List ℤ} {n p x P : ℕ} {b : State} {a : Rule} {ds : List No
   -- the same disjuncts, written otherwise
   pub regrouped : {ws : List ℤ} {before k l m : List Rule} {f : Folded} → before ≡ k → l ≡ m
       → Disjoined es bs n p x P ws b a before l ds f → Disjoined es bs n p x P ws b a k m ds f
-  regrouped {ws} {before} {k} {l} {m} {f} d e h =
+  regrouped {ws} {before} {k} {l} {m} {f} d e known =
       subst (λ (m : List Rule). Disjoined es bs n p x P ws b a k m ds f) e
-      (subst (λ (k : List Rule). Disjoined es bs n p x P ws b a k l ds f) d h)
+      (subst (λ (k : List Rule). Disjoined es bs n p x P ws b a k l ds f) d known)
 
   -- another answer, for as many of the last disjuncts as it is for
   pub with-answer : {ws : List ℤ} {before l : List Rule} {f : Folded} → Disjoined es bs n p x P ws b a before l ds f
       → (k m : List Rule) → disjuncts P x a ≡ k ++ m → (vs : List ℤ) (g : Folded) → length vs ≤ most-words
       → Gives vs b ds (fold-any m) g → Disjoined es bs n p x P vs b a k m ds g
-  with-answer h k m all vs g room gives = record {
-    stands = h .stands;
-    few = h .few;
-    formed = h .formed;
-    setting = h .setting;
-    period-fits = h .period-fits;
-    few-bounds = h .few-bounds;
-    numbers = h .numbers;
+  with-answer known k m all vs g room gives = record {
+    of = known .of;
     all = all;
-    lighter = h .lighter;
-    counted = h .counted;
+    counted = known .counted;
     gives = gives;
-    small = h .small;
+    small = known .small;
     room = room;
   }
 
   module _ {ws : List ℤ} (before : List Rule) {l : List Rule} {f : Folded} (c : Change) (u : Sum) (usable : Usable c u)
-      (h : Disjoined es bs n p x P ws b a (before ++ (changed c u a ∷ [])) l ds f) where
+      (known : Disjoined es bs n p x P ws b a (before ++ (changed c u a ∷ [])) l ds f) where
     one-first : disjuncts P x a ≡ before ++ (changed c u a ∷ l)
-    one-first = h .all ∙ append-assoc before (changed c u a ∷ []) l
+    one-first = known .all ∙ append-assoc before (changed c u a ∷ []) l
 
     pub next : Disjunct es bs n p c u ws b a l ds f
     unfolding disjunction any-of
@@ -90,28 +76,28 @@ module _ {es bs : List ℤ} {n p x P : ℕ} {b : State} {a : Rule} {ds : List No
         let long : length (disjuncts P x a) ≡ length before + length (d ∷ l) =
         ap length one-first ∙ length-append before (d ∷ l) in
         let many : length l + 1 ≤ P + P * length (bounds x a) = omega (arith, long, length-disjuncts P x a) in
-        let inside : weight a ≤ most-words = omega (arith, inside-bodies a (h .stands), h .few .few-words) in
-        let each = subst (All (λ d. weight d ≤ weight a)) (h .all) (h .lighter) in
+        let body = known .of in
+        let lighter = all-lighter P x a (body .setting .1) (body .there .formed) in
+        let each = subst (All (λ d. weight d ≤ weight a)) (known .all) lighter in
         let light = all-append (λ d. weight d ≤ weight a) (before ++ (d ∷ [])) l .0 each .1 in
         record {
-          stands = h .stands;
-          few = h .few;
-          formed = h .formed;
+          there = body .there;
           usable = usable;
           numbers = one-fits before d l
-              (subst (λ (ds : List Rule). T (not (some-literal over-limit (any-of ds)))) one-first (h .numbers));
-          counted = h .counted;
-          gives = h .gives;
+              (subst (λ (ds : List Rule). T (not (some-literal over-limit (any-of ds)))) one-first (body .numbers));
+          counted = known .counted;
+          gives = known .gives;
           small =
-              let most = all-counted P _ (length l + 1) (weight a) (h .period-fits .1) (h .few-bounds) many inside in
-              omega (arith, h .small, any-lighter (weight a) l light, most);
-          room = h .room;
+              let most = all-counted P _ (length l + 1) (weight a) (body .period-fits .1) (body .few-bounds) many
+              (table-words (body .there)) in
+              omega (arith, known .small, any-lighter (weight a) l light, most);
+          room = known .room;
         }
 
     -- it is answered, and the words vs are left
     pub one-more : (vs : List ℤ) (g : Folded) → length vs ≤ most-words → Gives vs b ds (fold-any (changed c u a ∷ l)) g
         → Disjoined es bs n p x P vs b a before (changed c u a ∷ l) ds g
-    one-more vs g room gives = with-answer h before (changed c u a ∷ l) one-first vs g room gives
+    one-more vs g room gives = with-answer known before (changed c u a ∷ l) one-first vs g room gives
 
 -- ---- at the start
 
@@ -120,17 +106,10 @@ module _ {es bs : List ℤ} {n p x P : ℕ} {places : List ℕ} {k : ℕ} {ws : 
   pub none-answered : Disjoined es bs n p x P ws b a (for-each 1 P (fars x a) ++ for-each 1 P (nears x a)) [] ds
       (Known false)
   none-answered = record {
-    stands = start .stands;
-    few = start .few;
-    formed = start .formed;
-    setting = start .setting;
-    period-fits = start .period-fits;
-    few-bounds = omega (arith, start .few-bounds, start .bounds-at .as-many);
-    numbers = start .numbers;
+    of = start .of;
     all = unfold disjuncts in sym (append-nil (for-each 1 P (fars x a) ++ for-each 1 P (nears x a)));
-    lighter = all-lighter P x a (start .setting .1) (start .formed);
-    counted = (start .built .ends .long ∙ length-unplaced ds, start .built .counted);
-    gives = unfold Gives fold-any in (refl, start .built);
-    small = start .small;
-    room = start .room;
+    counted = (start .on .built .ends .long ∙ length-unplaced ds, start .on .built .counted);
+    gives = unfold Gives fold-any in (refl, start .on .built);
+    small = start .on .small;
+    room = start .on .room;
   }

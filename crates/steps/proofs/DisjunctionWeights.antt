@@ -7,7 +7,7 @@ use native.Mathlib.Omega.{arith}
 use lib.IntN.{pos}
 use lib.ListN.{length}
 use Rattle.whole.proofs.Lists.{All, all-append, all-map, all-imp}
-use Rattle.rules.specs.Sum.{add, number}
+use Rattle.rules.specs.Sum.{Sum, add, number}
 use Rattle.rules.specs.Rule.{Rule}
 use Rattle.rules.specs.Table.{most-words}
 use Rattle.rules.specs.Fold.{fold}
@@ -15,11 +15,10 @@ use Rattle.rules.specs.Steps.{bounds, body-at, for-each, disjuncts, disjunction
 use Rattle.rules.specs.Eliminate.{most-period}
 use Rattle.rules.specs.Laws.{WellFormed}
 use Rattle.rules.proofs.Sizes.{weight}
-use Rattle.rules.proofs.Shapes.{formed-shape, seven-add, all-for-each, fars, nears}
-use Rattle.rules.proofs.StepShapes.{bounds-seven}
-use Rattle.rules.proofs.Weights.{body-lighter, far-body-lighter}
-use Rattle.rules.proofs.Disjuncts.{fold-any-of, any-lighter, length-disjuncts}
-use Rattle.steps.specs.Disjoining.{most-made}
+use Rattle.rules.proofs.Shapes.{formed-shape, seven-add, bounds-seven}
+use Rattle.rules.proofs.Weights.{body-lighter, far-body-lighter, any-lighter}
+use Rattle.rules.proofs.Disjuncts.{fold-any-of, length-disjuncts, all-for-each, fars, nears}
+use Rattle.steps.specs.There.{most-made}
 
 pub all-lighter : (P x : ℕ) (a : Rule) → x ≤ 6 → WellFormed a → All (λ d. weight d ≤ weight a) (disjuncts P x a)
 unfolding disjuncts
@@ -36,8 +35,10 @@ all-lighter P x a high w = all-append Light (for-each 1 P (fars x a)) (for-each 
     far j = unfold All in (far-body-lighter x (number (pos j)) a in-range refl w, tt)
 
     full : (j : ℕ) → All Light (nears x a j)
-    full j = all-map Light (λ b. body-at x (add b (number (pos j))) a) (bounds x a)
-        (all-imp (λ b h. body-lighter x (add b (number (pos j))) a in-range (seven-add b (number (pos j)) h refl) w)
+    full j =
+        let above : Sum → Sum = λ b. add b (number (pos j)) in
+        all-map Light (λ b. body-at x (above b) a) (bounds x a)
+        (all-imp (λ b seven. body-lighter x (above b) a in-range (seven-add b (number (pos j)) seven refl) w)
         (bounds x a) (bounds-seven x in-range a (formed-shape a w)))
 
 -- at most 4,096 for each of 1,365 bounds and for none, each with its or

@@ -1,3 +1,5 @@
+pub mod ThereLaws
+pub mod ForEachLaws
 pub mod SumLaws
 pub mod NumberLaws
 pub mod BlockLaws
@@ -6,10 +8,16 @@ pub mod DisjunctLaws
 pub mod DisjunctionLaws
 pub mod BoundsLaws
 pub mod PeriodLaws
-pub mod InBlockLaws
+pub mod FullLaws
+pub mod FarLaws
 pub mod SurveyLaws
 pub mod RowLaws
 pub mod SurveyOutcomes
 pub mod MakingLaws
+pub mod FactorLaws
+pub mod StepLaws
 pub mod ReplaceLaws
 pub mod AroundLaws
+pub mod AroundJoin
+pub mod AroundSides
+pub mod AroundChain

@@ -2,7 +2,7 @@
 -- bounds of step 3.
 -- Assumes nothing.
 use mathlib.Core.Path.{_≡_, refl, sym, _∙_, ap, ap₂, subst}
-use mathlib.Core.Bool.{Bool, true, false, _||_}
+use mathlib.Core.Bool.{Bool, true, false, _||_, or-assoc}
 use mathlib.Core.List.{List, [], _∷_, _++_}
 use Prim.Native.Nat.{ℕ, zero, suc, _+_, _*_, _<_, _≤_}
 use native.Mathlib.Omega.{arith}
@@ -22,7 +22,7 @@ use Rattle.rules.specs.Calls.{words}
 use Rattle.rules.proofs.Disjuncts.{far-body}
 use Rattle.rules.proofs.DisjunctNumbers.{far-over, full-over, some-bound, numbers-decide}
 use Rattle.tables.proofs.WordLaws.{words-from, words-length}
-use Rattle.tables.proofs.WalkLaws.{part}
+use Rattle.tables.proofs.WordLaws.{part}
 use Rattle.bodies.specs.Body.{SomeBody, BoundAt, BoundsAt}
 use Rattle.bodies.specs.Cursor as cursor
 use Rattle.bodies.specs.Cursor.{literals-of}
@@ -45,10 +45,6 @@ or-first q e = sym (ap (λ (b : Bool). b || q) e)
 
 pub or-second : {p q r : Bool} → p ≡ false → r ≡ q → r ≡ (p || q)
 or-second {q = q} e f = f ∙ sym (ap (λ (b : Bool). b || q) e)
-
-or-assoc : (a b c : Bool) → ((a || b) || c) ≡ (a || (b || c))
-or-assoc true b c = refl
-or-assoc false b c = refl
 
 -- ---- the literal that the loop is at
 
@@ -89,7 +85,7 @@ some-append q (k ∷ ks) ls =
     ∙ sym (or-assoc (q (k .0) (k .1)) (some-of q ks) (some-of q ls))
 
 -- in a body, it is one of its literals
-some-gathered : (q : Test → Sum → Bool) (a : Rule) → some-literal q a ≡ some-of q (literals-of a)
+pub some-gathered : (q : Test → Sum → Bool) (a : Rule) → some-literal q a ≡ some-of q (literals-of a)
 unfolding some-literal some-of literals-of gather
 some-gathered q (Constant b) = refl
 some-gathered q (Join j a b) =
@@ -194,30 +190,30 @@ module _ {bs : List ℤ} {x : ℕ} {places : List ℕ} {k : ℕ} where
   -- the bound of index i, at the place that is read
   pub bound-here : {us : List Sum} → BoundsAt bs x places k us → (i p : ℕ) → i < k → p ≡ getD places i 0
       → BoundAt bs x p (getD us i [])
-  bound-here {us} b i p h e = subst (λ (p : ℕ). BoundAt bs x p (getD us i [])) (sym e) (b .each i h)
+  bound-here {us} b i p inside e = subst (λ (p : ℕ). BoundAt bs x p (getD us i [])) (sym e) (b .each i inside)
 
   module _ {end : ℕ} (s : SomeBounds bs end x places k) where
     pub bounds-body : SomeBody bs end
     bounds-body = record { number = s .number; rule = s .rule; body = s .body; few = s .few }
 
     pub some-bound-here : (1 ≤ x) × (x ≤ 6) → (i p : ℕ) → i < k → p ≡ getD places i 0 → SomeBound bs x p
-    some-bound-here r i p h e =
-        record { bound = _; at = bound-here (s .at) i p h e; few = s .few; setting = r }
+    some-bound-here r i p inside e =
+        record { bound = _; at = bound-here (s .at) i p inside e; few = s .few; setting = r }
 
 module _ (q : Sum → Bool) where
   bound-next : (us : List Sum) (i : ℕ) → i < length us
       → some-bound q (drop i us) ≡ (q (getD us i []) || some-bound q (drop (suc i) us))
   unfolding some-bound
-  bound-next [] i h = absurd (omega arith)
-  bound-next (u ∷ us) zero h = refl
-  bound-next (u ∷ us) (suc i) h = bound-next us i (omega arith)
+  bound-next [] i inside = absurd (omega arith)
+  bound-next (u ∷ us) zero inside = refl
+  bound-next (u ∷ us) (suc i) inside = bound-next us i (omega arith)
 
   bound-last : (us : List Sum) (i : ℕ) → length us ≤ i → some-bound q (drop i us) ≡ false
   unfolding some-bound
-  bound-last [] zero h = refl
-  bound-last [] (suc i) h = refl
-  bound-last (u ∷ us) zero h = absurd (omega arith)
-  bound-last (u ∷ us) (suc i) h = bound-last us i (omega arith)
+  bound-last [] zero over = refl
+  bound-last [] (suc i) over = refl
+  bound-last (u ∷ us) zero over = absurd (omega arith)
+  bound-last (u ∷ us) (suc i) over = bound-last us i (omega arith)
 
 -- a number passes the limit in the full body at b+1 or at b+P
 abbrev pub bound-over : ℕ → ℕ → Rule → Sum → Bool
@@ -230,7 +226,7 @@ Left P x a i = some-bound (bound-over P x a) (bounds x a) ≡ some-bound (bound-
 module _ {bs : List ℤ} {x : ℕ} {places : List ℕ} {k : ℕ} (P : ℕ) (a : Rule) (at : BoundsAt bs x places k (bounds x a))
     (i : ℕ) (left : Left P x a i) where
   pub left-none : i < k → false ≡ bound-over P x a (getD (bounds x a) i []) → Left P x a (i + 1)
-  left-none h e =
+  left-none inside e =
       let next : suc i ≡ i + 1 = omega arith in
       left ∙ bound-next (bound-over P x a) (bounds x a) i (omega (arith, at .as-many))
       ∙ sym (or-second (sym e) refl)
@@ -238,11 +234,11 @@ module _ {bs : List ℤ} {x : ℕ} {places : List ℕ} {k : ℕ} (P : ℕ) (a : 
 
   pub left-one : i < k → true ≡ bound-over P x a (getD (bounds x a) i [])
       → some-bound (bound-over P x a) (bounds x a) ≡ true
-  left-one h e =
+  left-one inside e =
       left ∙ bound-next (bound-over P x a) (bounds x a) i (omega (arith, at .as-many)) ∙ sym (or-first _ (sym e))
 
   pub left-over : k ≤ i → some-bound (bound-over P x a) (bounds x a) ≡ false
-  left-over h = left ∙ bound-last (bound-over P x a) (bounds x a) i (omega (arith, at .as-many))
+  left-over over = left ∙ bound-last (bound-over P x a) (bounds x a) i (omega (arith, at .as-many))
 
 -- ---- the disjunction
 

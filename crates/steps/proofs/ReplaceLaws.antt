@@ -3,10 +3,10 @@
 -- Assumes nothing.
 use mathlib.Core.Path.{_≡_, refl, sym, _∙_, ap}
 use mathlib.Core.Bool.{Bool, true, false, not}
-use Prim.Native.Nat.{ℕ, zero, suc, _+_, _<_, _≤_}
+use Prim.Native.Nat.{ℕ, _+_, _<_, _≤_}
 use native.Mathlib.Omega.{arith}
 use lib.Dec.{T}
-use Rattle.rules.specs.Rule.{Junction, Quantifier, Rule, Constant, Join, Not, Literal, Bind}
+use Rattle.rules.specs.Rule.{Junction, Quantifier, Rule, Join, Not, Bind}
 use Rattle.rules.specs.Table.{count}
 use Rattle.rules.specs.Fold.{fold-not, fold}
 use Rattle.rules.specs.Chosen.{the, quantifiers, quantified, chosen, replace}
@@ -15,9 +15,9 @@ use Rattle.rules.proofs.Sizes.{weight}
 use Rattle.rules.proofs.Meaning.{none-quantified, some-quantified}
 use Rattle.rules.proofs.Choosing.{Put, here, in-left, in-right, in-not, in-bind, put, put-some}
 use Rattle.rules.proofs.Weights.{fold-lighter, join-lighter}
-use Rattle.bodies.specs.Body.{chosen-number, chosen-place}
+use Rattle.tables.specs.Last.{chosen-number, chosen-place}
 use Rattle.bodies.proofs.ChosenLaws.{chosen-few}
-use Rattle.walks.specs.Chain.{Chained, below, chain-words, wrap}
+use Rattle.walks.specs.Chain.{Chained, no-link, a-not, a-bind, below, chain-words, wrap}
 use Rattle.walks.proofs.ChainLaws.{wrap-weight}
 
 -- the first where the test passes, else the second
@@ -27,20 +27,16 @@ by first second t = elim t [ true ↦ first | false ↦ second ]
 pub some-chosen : (r : Rule) {q : Quantifier} {x : ℕ} {a : Rule} → chosen r ≡ the q x a → 0 < quantifiers r
 some-chosen r e = put-some (put r r e)
 
+-- the chosen quantifier of the rule r is that of its part s, which stands i nodes and w words behind it
+pub record ChosenIn (r s : Rule) (i w : ℕ) : Type 0 where
+  pub same : chosen r ≡ chosen s
+  pub number : chosen-number r ≡ i + chosen-number s
+  pub place : chosen-place r ≡ w + chosen-place s
+
 -- ---- in a join
 
-pub record InRight (j : Junction) (a b : Rule) : Type 0 where
-  pub same : chosen (Join j a b) ≡ chosen b
-  pub number : chosen-number (Join j a b) ≡ 1 + count a + chosen-number b
-  pub place : chosen-place (Join j a b) ≡ 2 + weight a + chosen-place b
-
-pub record InLeft (j : Junction) (a b : Rule) : Type 0 where
-  pub same : chosen (Join j a b) ≡ chosen a
-  pub number : chosen-number (Join j a b) ≡ 1 + chosen-number a
-  pub place : chosen-place (Join j a b) ≡ 2 + chosen-place a
-
 module _ (j : Junction) (a b : Rule) where
-  pub right-chosen : quantified b ≡ true → InRight j a b
+  pub right-chosen : quantified b ≡ true → ChosenIn (Join j a b) b (1 + count a) (2 + weight a)
   unfolding chosen chosen-number chosen-place
   right-chosen e = record {
     same = ap (by (chosen b) (chosen a)) e;
@@ -48,7 +44,7 @@ module _ (j : Junction) (a b : Rule) where
     place = ap (by (2 + weight a + chosen-place b) (2 + chosen-place a)) e;
   }
 
-  pub left-chosen : quantified b ≡ false → InLeft j a b
+  pub left-chosen : quantified b ≡ false → ChosenIn (Join j a b) a 1 2
   unfolding chosen chosen-number chosen-place
   left-chosen e = record {
     same = ap (by (chosen b) (chosen a)) e;
@@ -88,9 +84,7 @@ replace-sides new j a b false e = ap (by (Join j a (replace new b)) (Join j (rep
 -- ---- under a chain
 
 pub record Under (k : ℕ) (r : Rule) : Type 0 where
-  pub same : chosen r ≡ chosen (below k r)
-  pub number : chosen-number r ≡ k + chosen-number (below k r)
-  pub place : chosen-place r ≡ chain-words k r + chosen-place (below k r)
+  pub inside : ChosenIn r (below k r) k (chain-words k r)
   pub folded : (new : Rule) → fold (replace new r) ≡ wrap k r (fold (replace new (below k r)))
 
 -- a quantifier that is not the chosen one has it in its body
@@ -103,26 +97,30 @@ over-quantified q v a some = go (quantified a) refl
     go false e = absurd (omega (arith, some, ap (by (1 + chosen-number a) 0) e))
 
 pub under-chain : (k : ℕ) (r : Rule) → Chained k r → k ≤ chosen-number r → Under k r
-unfolding Chained below chain-words wrap chosen chosen-number chosen-place replace fold
-under-chain zero r c h = record { same = refl; number = omega arith; place = omega arith; folded = λ new. refl }
-under-chain (suc k) (Constant b) c h = absurd c
-under-chain (suc k) (Join j a b) c h = absurd c
-under-chain (suc k) (Not a) c h = let inner = under-chain k a c (omega (arith, h)) in record {
-  same = inner .same;
-  number = omega (arith, inner .number);
-  place = omega (arith, inner .place);
+unfolding below chain-words wrap chosen chosen-number chosen-place replace fold
+under-chain k r (no-link s) few = record {
+  inside = record { same = refl; number = omega arith; place = omega arith };
+  folded = λ new. refl;
+}
+under-chain k r (a-not {k = i} a c) few = let inner = under-chain i a c (omega (arith, few)) in record {
+  inside = record {
+    same = inner .inside .same;
+    number = omega (arith, inner .inside .number);
+    place = omega (arith, inner .inside .place);
+  };
   folded = λ new. ap fold-not (inner .folded new);
 }
-under-chain (suc k) (Literal t s) c h = absurd c
-under-chain (suc k) (Bind q v a) c h =
-    let e = over-quantified q v a (omega (arith, h)) in
+under-chain k r (a-bind {k = i} q v a c) few =
+    let e = over-quantified q v a (omega (arith, few)) in
     let number = ap (by (1 + chosen-number a) 0) e in
     let place = ap (by (2 + chosen-place a) 0) e in
-    let inner = under-chain k a c (omega (arith, h, number)) in
+    let inner = under-chain i a c (omega (arith, few, number)) in
     record {
-      same = ap (by (chosen a) (the q v a)) e ∙ inner .same;
-      number = omega (arith, number, inner .number);
-      place = omega (arith, place, inner .place);
+      inside = record {
+        same = ap (by (chosen a) (the q v a)) e ∙ inner .inside .same;
+        number = omega (arith, number, inner .inside .number);
+        place = omega (arith, place, inner .inside .place);
+      };
       folded = λ new.
           ap (λ (t : Bool). fold (by (Bind q v (replace new a)) new t)) e ∙ ap (Bind q v) (inner .folded new);
     }

@@ -1,6 +1,6 @@
 -- Rules are surveyed part by part: the tallies of the parts add up.
 -- Assumes nothing.
-use mathlib.Core.Path.{_≡_, refl, sym, _∙_, ap, ap₂, subst}
+use mathlib.Core.Path.{_≡_, refl, sym, _∙_, ap, subst}
 use mathlib.Core.Bool.{Bool, true, false, cond}
 use mathlib.Core.List.{List, [], _∷_, _++_}
 use Prim.Native.Nat.{ℕ, zero, suc, _+_, _-_, _<_, _≤_}
@@ -20,7 +20,7 @@ use Rattle.steps.specs.Surveying.{folds-true, stays-open, tally, Tells, 
 use Rattle.steps.specs.declared.survey.Survey.{Survey}
 use Rattle.steps.specs.declared.survey.Survey.the-variants.{SomeTrue, NoneTrue}
 use Rattle.steps.proofs.BlockLaws.{bit-told}
-use Rattle.steps.proofs.PeriodLaws.{for-each-parts}
+use Rattle.steps.proofs.ForEachLaws.{for-each-parts}
 
 -- ---- tallies
 
@@ -43,12 +43,6 @@ tally-parts f from (suc n) F G = omega (
   tally-parts f (suc from) n F G,
 )
 
-pub same-for-each : {A : Type 0} (from n : ℕ) (F G : ℕ → List A) → ((j : ℕ) → F j ≡ G j)
-    → for-each from n F ≡ for-each from n G
-unfolding for-each
-same-for-each from zero F G h = refl
-same-for-each from (suc n) F G h = ap₂ (λ k l. k ++ l) (h from) (same-for-each (suc from) n F G h)
-
 few-open : (l : List Rule) → tally stays-open l ≤ length l
 unfolding tally
 few-open [] = omega arith
@@ -63,49 +57,50 @@ none-seen = record { tells = (refl, refl) }
 both-seen : (k l : List Rule) (m n : ℕ) → Surveyed k (NoneTrue m) → Surveyed l (NoneTrue n)
     → Surveyed (k ++ l) (NoneTrue (m + n))
 unfolding Tells
-both-seen k l m n g h = record {
+both-seen k l m n first second = record {
   tells = (
-    omega (arith, tally-append folds-true k l, g .tells .0, h .tells .0),
-    omega (arith, tally-append stays-open k l, g .tells .1, h .tells .1),
+    omega (arith, tally-append folds-true k l, first .tells .0, second .tells .0),
+    omega (arith, tally-append stays-open k l, first .tells .1, second .tells .1),
   );
 }
 
 pub true-first : (k l : List Rule) → Surveyed k SomeTrue → Surveyed (k ++ l) SomeTrue
 unfolding Tells
-true-first k l h = record { tells = omega (arith, tally-append folds-true k l, h .tells) }
+true-first k l seen = record { tells = omega (arith, tally-append folds-true k l, seen .tells) }
 
 true-last : (k l : List Rule) → Surveyed l SomeTrue → Surveyed (k ++ l) SomeTrue
 unfolding Tells
-true-last k l h = record { tells = omega (arith, tally-append folds-true k l, h .tells) }
+true-last k l seen = record { tells = omega (arith, tally-append folds-true k l, seen .tells) }
 
 pub seen-few : (l : List Rule) {n : ℕ} → Surveyed l (NoneTrue n) → n ≤ length l
 unfolding Tells
-seen-few l h = omega (arith, h .tells .1, few-open l)
+seen-few l seen = omega (arith, seen .tells .1, few-open l)
 
 -- as it is told
 pub told-none : (l : List Rule) {s : Survey} {n : ℕ} → s ≡ NoneTrue n → Surveyed l s → Surveyed l (NoneTrue n)
-told-none l e h = subst (Surveyed l) e h
+told-none l e seen = subst (Surveyed l) e seen
 
 pub told-true : (k l : List Rule) {s : Survey} → s ≡ SomeTrue → (Surveyed k SomeTrue → Surveyed l SomeTrue)
     → Surveyed k s → Surveyed l s
-told-true k l e f h = subst (Surveyed l) (sym e) (f (subst (Surveyed k) e h))
+told-true k l e f seen = subst (Surveyed l) (sym e) (f (subst (Surveyed k) e seen))
 
 -- one after the other: the rules of m numbers from `from` on, and of w more
 module _ (F : ℕ → List Rule) (from m w : ℕ) where
-  pub more-seen : {o q : ℕ} → Surveyed (for-each from m F) (NoneTrue o) → Surveyed (for-each (from + m) w F) (NoneTrue q)
-      → Surveyed (for-each from (m + w) F) (NoneTrue (o + q))
-  more-seen {o} {q} g h = subst (λ (l : List Rule). Surveyed l (NoneTrue (o + q))) (sym (for-each-parts from m w F))
-      (both-seen (for-each from m F) (for-each (from + m) w F) o q g h)
+  pub more-seen : {o q : ℕ} → Surveyed (for-each from m F) (NoneTrue o)
+      → Surveyed (for-each (from + m) w F) (NoneTrue q) → Surveyed (for-each from (m + w) F) (NoneTrue (o + q))
+  more-seen {o} {q} first second =
+      subst (λ (l : List Rule). Surveyed l (NoneTrue (o + q))) (sym (for-each-parts from m w F))
+      (both-seen (for-each from m F) (for-each (from + m) w F) o q first second)
 
   pub true-among : (n : ℕ) → m + w ≤ n → Surveyed (for-each (from + m) w F) SomeTrue
       → Surveyed (for-each from n F) SomeTrue
-  true-among n inside h =
+  true-among n inside seen =
       let all : m + w + (n - (m + w)) ≡ n = omega arith in
       subst (λ (i : ℕ). Surveyed (for-each from i F) SomeTrue) all
       (subst (λ (l : List Rule). Surveyed l SomeTrue) (sym (for-each-parts from (m + w) (n - (m + w)) F))
       (true-first (for-each from (m + w) F) (for-each (from + (m + w)) (n - (m + w)) F)
       (subst (λ (l : List Rule). Surveyed l SomeTrue) (sym (for-each-parts from m w F))
-      (true-last (for-each from m F) (for-each (from + m) w F) h))))
+      (true-last (for-each from m F) (for-each (from + m) w F) seen))))
 
 -- ---- a block, bit by bit
 
@@ -176,12 +171,9 @@ RowSoFar es bs n p far x u P left many = (a : Rule) → Judging es bs n p x u P 
 module _ {es bs : List ℤ} {n p x : ℕ} {u : Sum} {P : ℕ} where
   judging-at : {a : Rule} (j : ℕ) → j ≤ P → Judging es bs n p x u P a → Judging es bs n p x u j a
   judging-at j upto judging = record {
-    stands = judging .stands;
-    few = judging .few;
-    formed = judging .formed;
+    at = judging .at;
     setting = judging .setting;
-    seven = judging .seven;
-    within = judging .within;
+    sum = judging .sum;
     upto = omega (arith, upto, judging .upto);
   }
 
@@ -218,7 +210,7 @@ module _ {es bs : List ℤ} {n p : ℕ} (far : Bool) {x : ℕ} {u : Sum} {P : �
         let next : left - w + 1 ≡ 1 + (left - w) = omega arith in
         subst (λ (i : ℕ). Surveyed (for-each i w (each-of (λ j. at-sum far x u j a))) s) next
         (surveys (left - w + 1) (λ j. at-sum far x u j a)
-        (λ k h. says a k (judging-at (left - w + 1) (omega arith) judging) h))
+        (λ k inside. says a k (judging-at (left - w + 1) (omega arith) judging) inside))
 
     pub block-few : SomeJudging es bs n p x u P → {more : ℕ} → s ≡ NoneTrue more → more ≤ w
     block-few some is =

@@ -2,38 +2,29 @@
 -- Assumes nothing.
 use mathlib.Core.Path.{_≡_}
 use mathlib.Core.List.{List, []}
-use Prim.Native.Nat.{ℕ, _+_, _<_, _≤_}
+use Prim.Native.Nat.{ℕ, _+_, _<_}
 use lib.IntN.{ℤ, pos}
 use lib.ListN.{getD}
 use Rattle.rules.specs.Sum.{Sum, add, number}
 use Rattle.rules.specs.Rule.{Rule, False}
 use Rattle.rules.specs.Fold.{fold}
 use Rattle.rules.specs.Steps.{bounds}
-use Rattle.rules.specs.Eliminate.{most-period}
-use Rattle.rules.specs.Laws.{WellFormed}
-use Rattle.tables.specs.Standing.{Stands, Few}
 use Rattle.bodies.specs.Body.{BoundsAt}
+use Rattle.literals.specs.Changes.{InRange}
 use Rattle.walks.specs.Walk.{changed}
 use Rattle.judging.specs.Judging.{bit, Says}
+use Rattle.tables.specs.Standing.{RuleAt}
 use Rattle.literals.specs.declared.change.Change.the-variants.{Far, Full}
 
--- the body a of the quantifier with the setting x stands there, and j is no more than a period may be
-pub record BodyThere (es bs : List ℤ) (n p x j : ℕ) (a : Rule) : Type 0 where
-  pub stands : Stands es bs n p a
-  pub few : Few es bs n p
-  pub formed : WellFormed a
-  pub setting : (1 ≤ x) × (x ≤ 6)
-  pub upto : j ≤ most-period
+-- a body stands there, with the places of the literals that give its k bounds
+pub record BodyBounds (es bs : List ℤ) (n p x : ℕ) (places : List ℕ) (k : ℕ) (a : Rule) : Type 0 where
+  pub there : RuleAt es bs n p a
+  pub setting : InRange x
+  pub bounds-at : BoundsAt bs x places k (bounds x a)
 
-pub record SomeBodyThere (es bs : List ℤ) (n p x j : ℕ) : Type 0 where
+pub record SomeBodyBounds (es bs : List ℤ) (n p x : ℕ) (places : List ℕ) (k : ℕ) : Type 0 where
   pub rule : Rule
-  pub there : BodyThere es bs n p x j rule
-
--- with the places of its bounds' literals
-pub record SomeBodyBounds (es bs : List ℤ) (n p x j : ℕ) (places : List ℕ) (k : ℕ) : Type 0 where
-  pub rule : Rule
-  pub there : BodyThere es bs n p x j rule
-  pub bounds-at : BoundsAt bs x places k (bounds x rule)
+  pub body : BodyBounds es bs n p x places k rule
 
 -- the far-left body at x = j, and the full one at x = b+j
 abbrev pub far-at : ℕ → Rule → ℕ → Rule

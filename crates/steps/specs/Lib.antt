@@ -1,3 +1,4 @@
+pub mod There
 pub mod Put
 pub mod Numbers
 pub mod Blocks

@@ -16,14 +16,16 @@ use Rattle.rules.specs.Literals.{some-literal}
 use Rattle.rules.specs.Chosen.{the, chosen}
 use Rattle.rules.specs.Steps.{by-some, normal, scaled, bounds, disjunction}
 use Rattle.rules.specs.Eliminate.{over-limit, most-period}
-use Rattle.rules.specs.Laws.{QuantifierFree, WellFormed}
+use Rattle.rules.specs.Laws.{QuantifierFree}
 use Rattle.rules.proofs.Sizes.{weight, total}
-use Rattle.tables.specs.Standing.{Stands, Few}
 use Rattle.builder.specs.Built.{Built, most-counted}
 use Rattle.builder.specs.declared.push.State.{State}
-use Rattle.bodies.specs.Body.{BoundsAt, chosen-number, chosen-place}
+use Rattle.tables.specs.Last.{chosen-number, chosen-place}
+use Rattle.bodies.specs.Body.{BoundsAt}
+use Rattle.literals.specs.Changes.{InRange}
 use Rattle.walks.specs.Chain.{unary}
-use Rattle.steps.specs.Disjoining.{most-made}
+use Rattle.tables.specs.Standing.{RuleAt}
+use Rattle.steps.specs.There.{most-made, BuildsOn}
 use Rattle.steps.specs.declared.made.Step.{Step}
 use Rattle.steps.specs.declared.made.Step.the-variants.{ForAll, NormalForm, CommonFactor, Disjunction, Truth}
 
@@ -52,95 +54,75 @@ pub record Makeable (step : Step) (bs : List ℤ) (places : List ℕ) (x : ℕ) 
   pub numbers : T (not (some-literal over-limit (new-of step x a)))
   pub light : weight (fold (new-of step x a)) ≤ most-made
 
--- the quantifier stands at the start of the entries es and the bodies bs; `nothing` is a sum that is not put in
-pub record Making (es bs : List ℤ) (n p : ℕ) (step : Step) (places : List ℕ) (nothing : Sum) (ws : List ℤ) (b : State)
-    (q : Quantifier) (x : ℕ) (a : Rule) (ds : List Node) : Type 0 where
-  pub stands : Stands es bs n p (Bind q x a)
-  pub few : Few es bs n p
-  pub formed : WellFormed (Bind q x a)
-  pub free : QuantifierFree a
-  pub makeable : Makeable step (drop 2 bs) places x a
-  pub zeros : nothing ≡ number (pos 0)
-  pub built : Built ws b ds
-  pub small : total ds + most-made < most-counted
-  pub room : length ws ≤ most-words
+-- ---- of the quantifier, which starts the entries es and the bodies bs; `nothing` is a sum that is not put in
 
-pub record SomeMaking (es bs : List ℤ) (n p : ℕ) (step : Step) (places : List ℕ) (nothing : Sum) (ws : List ℤ)
+module _ (es bs : List ℤ) (n p : ℕ) (step : Step) (places : List ℕ) (nothing : Sum) (ws : List ℤ) (b : State) where
+  pub record Making (q : Quantifier) (x : ℕ) (a : Rule) (ds : List Node) : Type 0 where
+    pub there : RuleAt es bs n p (Bind q x a)
+    pub free : QuantifierFree a
+    pub makeable : Makeable step (drop 2 bs) places x a
+    pub zeros : nothing ≡ number (pos 0)
+    pub on : BuildsOn ws b ds
+
+  pub record SomeMaking : Type 0 where
+    pub quantifier : Quantifier
+    pub setting : ℕ
+    pub body : Rule
+    pub tail : List Node
+    pub making : Making quantifier setting body tail
+
+-- ---- of its body a alone, with the setting x
+
+module _ (es bs : List ℤ) (n p : ℕ) (step : Step) (x : ℕ) (ws : List ℤ) (b : State) where
+  pub record BodyMaking (a : Rule) (ds : List Node) : Type 0 where
+    pub there : RuleAt es bs n p a
+    pub free : QuantifierFree a
+    pub setting : InRange x
+    pub numbers : T (not (some-literal over-limit (new-of step x a)))
+    pub on : BuildsOn ws b ds
+
+  pub record SomeBodyMaking : Type 0 where
+    pub rule : Rule
+    pub tail : List Node
+    pub making : BodyMaking rule tail
+
+  -- and the step's own numbers are fair
+  pub record FairMaking (places : List ℕ) (a : Rule) (ds : List Node) : Type 0 where
+    pub making : BodyMaking a ds
+    pub fair : FairStep step bs places x a
+
+  pub record SomeFairMaking (places : List ℕ) : Type 0 where
+    pub rule : Rule
+    pub tail : List Node
+    pub fair-making : FairMaking places rule tail
+
+-- ---- of what stands around it: it is node c
+
+module _ (es bs : List ℤ) (n p c : ℕ) (step : Step) (places : List ℕ) (nothing : Sum) (ws : List ℤ) (b : State) where
+  -- the rule r stands there, and its chosen quantifier is that node
+  pub record Around (r : Rule) (q : Quantifier) (x : ℕ) (a : Rule) (ds : List Node) : Type 0 where
+    pub there : RuleAt es bs n p r
+    pub at : chosen r ≡ the q x a
+    pub number-is : c ≡ n + chosen-number r
+    pub makeable : Makeable step (drop (chosen-place r + 2) bs) places x a
+    pub zeros : nothing ≡ number (pos 0)
+    pub built : Built ws b ds
+    pub small : total ds + weight r + most-made < most-counted
+    pub room : length ws ≤ most-words
+
+  pub record SomeAround : Type 0 where
+    pub rule : Rule
+    pub quantifier : Quantifier
+    pub setting : ℕ
+    pub body : Rule
+    pub tail : List Node
+    pub around : Around rule quantifier setting body tail
+
+-- the rule is the chosen quantifier, or neither a not nor a quantifier
+abbrev pub Bare : ℕ → ℕ → Rule → Type 0
+Bare n c r = (n ≡ c) ⊎ (unary r ≡ false)
+
+pub record SomeBare (es bs : List ℤ) (n p c : ℕ) (step : Step) (places : List ℕ) (nothing : Sum) (ws : List ℤ)
     (b : State) : Type 0 where
-  pub quantifier : Quantifier
-  pub setting : ℕ
-  pub body : Rule
-  pub tail : List Node
-  pub making : Making es bs n p step places nothing ws b quantifier setting body tail
-
--- ---- of the body alone
-
--- the body a of the quantifier, which has the setting x, stands there, and the step's new rule can be built
-pub record BodyMaking (es bs : List ℤ) (n p : ℕ) (step : Step) (x : ℕ) (ws : List ℤ) (b : State)
-    (a : Rule) (ds : List Node) : Type 0 where
-  pub stands : Stands es bs n p a
-  pub few : Few es bs n p
-  pub formed : WellFormed a
-  pub free : QuantifierFree a
-  pub setting : (1 ≤ x) × (x ≤ 6)
-  pub numbers : T (not (some-literal over-limit (new-of step x a)))
-  pub built : Built ws b ds
-  pub small : total ds + most-made < most-counted
-  pub room : length ws ≤ most-words
-
-pub record SomeBodyMaking (es bs : List ℤ) (n p : ℕ) (step : Step) (x : ℕ) (ws : List ℤ) (b : State) : Type 0 where
-  pub rule : Rule
-  pub tail : List Node
-  pub making : BodyMaking es bs n p step x ws b rule tail
-
--- and the step's own numbers are fair
-pub record FairMaking (es bs : List ℤ) (n p : ℕ) (step : Step) (x : ℕ) (places : List ℕ) (ws : List ℤ) (b : State)
-    (a : Rule) (ds : List Node) : Type 0 where
-  pub making : BodyMaking es bs n p step x ws b a ds
-  pub fair : FairStep step bs places x a
-
-pub record SomeFairMaking (es bs : List ℤ) (n p : ℕ) (step : Step) (x : ℕ) (places : List ℕ) (ws : List ℤ) (b : State)
-    : Type 0 where
-  pub rule : Rule
-  pub tail : List Node
-  pub fair-making : FairMaking es bs n p step x places ws b rule tail
-
--- ---- what stands around it
-
--- the chosen quantifier of the rule r, which stands there, is node c
-pub record Around (es bs : List ℤ) (n p c : ℕ) (step : Step) (places : List ℕ) (nothing : Sum) (ws : List ℤ) (b : State)
-    (r : Rule) (q : Quantifier) (x : ℕ) (a : Rule) (ds : List Node) : Type 0 where
-  pub stands : Stands es bs n p r
-  pub few : Few es bs n p
-  pub formed : WellFormed r
-  pub at : chosen r ≡ the q x a
-  pub number-is : c ≡ n + chosen-number r
-  pub makeable : Makeable step (drop (chosen-place r + 2) bs) places x a
-  pub zeros : nothing ≡ number (pos 0)
-  pub built : Built ws b ds
-  pub small : total ds + weight r + most-made < most-counted
-  pub room : length ws ≤ most-words
-
-pub record SomeAround (es bs : List ℤ) (n p c : ℕ) (step : Step) (places : List ℕ) (nothing : Sum) (ws : List ℤ)
-    (b : State) : Type 0 where
-  pub rule : Rule
-  pub quantifier : Quantifier
-  pub setting : ℕ
-  pub body : Rule
-  pub tail : List Node
-  pub around : Around es bs n p c step places nothing ws b rule quantifier setting body tail
-
--- the same where the rule is the chosen quantifier, or neither a not nor a quantifier
-pub record Within (es bs : List ℤ) (n p c : ℕ) (step : Step) (places : List ℕ) (nothing : Sum) (ws : List ℤ) (b : State)
-    (r : Rule) (q : Quantifier) (x : ℕ) (a : Rule) (ds : List Node) : Type 0 where
-  pub around : Around es bs n p c step places nothing ws b r q x a ds
-  pub bare : (n ≡ c) ⊎ (unary r ≡ false)
-
-pub record SomeWithin (es bs : List ℤ) (n p c : ℕ) (step : Step) (places : List ℕ) (nothing : Sum) (ws : List ℤ)
-    (b : State) : Type 0 where
-  pub rule : Rule
-  pub quantifier : Quantifier
-  pub setting : ℕ
-  pub body : Rule
-  pub tail : List Node
-  pub within : Within es bs n p c step places nothing ws b rule quantifier setting body tail
+  pub some : SomeAround es bs n p c step places nothing ws b
+  pub bare : Bare n c (some .rule)

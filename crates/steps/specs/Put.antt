@@ -7,10 +7,11 @@ use lib.ListN.{length}
 use Rattle.rules.specs.Sum.{Sum}
 use Rattle.rules.specs.Table.{most-words}
 use Rattle.bodies.specs.Body.{BoundAt}
+use Rattle.literals.specs.Changes.{InRange}
 
 -- a literal that gives a bound stands at place p
 pub record SomeBound (bs : List ℤ) (x p : ℕ) : Type 0 where
   pub bound : Sum
   pub at : BoundAt bs x p bound
   pub few : length bs ≤ most-words
-  pub setting : (1 ≤ x) × (x ≤ 6)
+  pub setting : InRange x

@@ -17,10 +17,10 @@ ghost use Rattle.rules.specs.Fold.{fold as fold-of};
 ghost use Rattle.rules.specs.Chosen.{replace};
 ghost use Rattle.rules.specs.Calls.{words as words-of};
 ghost use Rattle.folding.specs.Answers.{Gives};
-ghost use Rattle.steps.specs.Making.{new-of, Around, SomeAround, Within, SomeWithin};
+ghost use Rattle.steps.specs.Making.{new-of, Around, SomeAround, Bare, SomeBare};
 
-// The rule that starts these entries and bodies, with the step's new rule in the place of the chosen quantifier, which is
-// node `chosen`.
+// The rule that starts these entries and bodies, with the step's new rule in the place of the chosen quantifier, node
+// `chosen`.
 pub fn around(
     entries: &[u8],
     bodies: &[u8],
@@ -71,11 +71,12 @@ fn within(
     out: &mut [u8],
     b: State,
 ) -> Folded
-    requires { ⌜ SomeWithin (words-of (now entries)) (words-of (now bodies)) node place chosen step (now places)
+    requires { ⌜ SomeBare (words-of (now entries)) (words-of (now bodies)) node place chosen step (now places)
         (now nothing) (words-of (now out)) b ⌝ }
     ensures { λ r. ⌜ ((a : Rule) (q : Quantifier) (x : ℕ) (body : Rule) (ds : List Node)
-        → Within (words-of (now (entries .entry))) (words-of (now (bodies .entry))) node place chosen step
+        → Around (words-of (now (entries .entry))) (words-of (now (bodies .entry))) node place chosen step
         (now (places .entry)) (now (nothing .entry)) (words-of (now (out .entry))) b a q x body ds
+        → Bare node chosen a
         → Gives (words-of (now (out .exit))) b ds (fold-of (replace (new-of step x body) a)) r) ⌝ }
 {
     if node == chosen {

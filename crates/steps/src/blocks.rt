@@ -1,21 +1,22 @@
 // A block: up to 64 values of j, at which a body is judged at once. Bit k of a mask stands for the k-th of them.
-use crate::numbers;
 use crate::sums;
+use judging::answers::Judged;
 use judging::judge;
-use judging::judge::Judged;
 ghost use mathlib.Core.Path.{_≡_};
-ghost use Prim.Native.Nat.{ℕ, _<_, _≤_};
+ghost use Prim.Native.Nat.{_<_, _≤_};
 ghost use lib.Dec.{eqb};
 ghost use lib.ListN.{length, getD, set};
 ghost use Rattle.rules.specs.Sum.{Sum};
 ghost use Rattle.rules.specs.Rule.{Rule};
-ghost use Rattle.rules.specs.Steps.{bounds as bounds-of};
+ghost use Rattle.rules.specs.Eliminate.{most-period};
 ghost use Rattle.rules.specs.Calls.{words};
-ghost use Rattle.bodies.specs.Body.{BoundAt, BoundsAt};
+ghost use Rattle.bodies.specs.Body.{BoundAt};
+ghost use Rattle.literals.specs.Changes.{InRange};
 ghost use Rattle.steps.specs.Put.{SomeBound};
 ghost use Rattle.judging.specs.Judging.{bit};
-ghost use Rattle.steps.specs.Blocks.{BodyThere, SomeBodyThere, SomeBodyBounds, Judges, far-at, full-at};
-ghost use Rattle.steps.specs.Blocks.{FalseAtBounds};
+ghost use Rattle.tables.specs.Standing.{RuleAt};
+ghost use Rattle.steps.specs.There.{SomeRuleThere};
+ghost use Rattle.steps.specs.Blocks.{BodyBounds, SomeBodyBounds, Judges, far-at, full-at, FalseAtBounds};
 
 // How many values of j the next block has, where so many are left.
 pub fn width(left: usize) -> usize
@@ -52,9 +53,10 @@ fn put(masks: &mut [u64], i: usize, mask: u64)
 
 // The far-left body at x = j, and at the 63 next.
 pub fn far(entries: &[u8], bodies: &[u8], node: usize, place: usize, x: usize, j: usize) -> Judged
-    requires { ⌜ SomeBodyThere (words (now entries)) (words (now bodies)) node place x j ⌝ }
+    requires { ⌜ SomeRuleThere (words (now entries)) (words (now bodies)) node place × InRange x
+        × (j ≤ most-period) ⌝ }
     ensures { λ r. ⌜ ((a : Rule)
-        → BodyThere (words (now (entries .entry))) (words (now (bodies .entry))) node place x j a
+        → RuleAt (words (now (entries .entry))) (words (now (bodies .entry))) node place a
         → Judges (r .yes) (r .no) j (far-at x a)) ⌝ }
 {
     let u = sums::numeral(0);
@@ -71,10 +73,10 @@ pub fn full(
     p: usize,
     j: usize,
 ) -> Judged
-    requires { ⌜ SomeBodyThere (words (now entries)) (words (now bodies)) node place x j
-        × SomeBound (words (now bodies)) x p ⌝ }
+    requires { ⌜ SomeRuleThere (words (now entries)) (words (now bodies)) node place
+        × SomeBound (words (now bodies)) x p × (j ≤ most-period) ⌝ }
     ensures { λ r. ⌜ ((a : Rule) (bound : Sum)
-        → BodyThere (words (now (entries .entry))) (words (now (bodies .entry))) node place x j a
+        → RuleAt (words (now (entries .entry))) (words (now (bodies .entry))) node place a
         → BoundAt (words (now (bodies .entry))) x p bound
         → Judges (r .yes) (r .no) j (full-at x a bound)) ⌝ }
 {
@@ -94,24 +96,16 @@ pub fn false_at_bounds(
     k: usize,
     masks: &mut [u64],
 )
-    requires { ⌜ SomeBodyBounds (words (now entries)) (words (now bodies)) node place x j (now places) k
-        × (k ≤ length (now masks)) ⌝ }
-    ensures { λ r. ⌜ ((a : Rule)
-        → BodyThere (words (now (entries .entry))) (words (now (bodies .entry))) node place x j a
-        → BoundsAt (words (now (bodies .entry))) x (now (places .entry)) k (bounds-of x a)
+    requires { ⌜ SomeBodyBounds (words (now entries)) (words (now bodies)) node place x (now places) k
+        × (j ≤ most-period) × (k ≤ length (now masks)) ⌝ }
+    ensures { λ _. ⌜ ((a : Rule)
+        → BodyBounds (words (now (entries .entry))) (words (now (bodies .entry))) node place x (now (places .entry)) k a
         → FalseAtBounds (now (masks .exit)) x j k a) ⌝ }
 {
     let mut i = 0;
     while i < k {
-        let judged = full(
-            entries,
-            bodies,
-            node,
-            place,
-            x,
-            numbers::at(places, i) as usize,
-            j,
-        );
+        let p = sums::place(places, i);
+        let judged = full(entries, bodies, node, place, x, p, j);
         put(masks, i, judged.no);
         i += 1;
     }

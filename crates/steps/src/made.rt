@@ -143,11 +143,11 @@ fn of_body(
     out: &mut [u8],
     b: State,
 ) -> Folded
-    requires { ⌜ SomeFairMaking (words-of (now entries)) (words-of (now bodies)) node place step x (now places)
-        (words-of (now out)) b × (now nothing ≡ number (pos 0)) ⌝ }
+    requires { ⌜ SomeFairMaking (words-of (now entries)) (words-of (now bodies)) node place step x
+        (words-of (now out)) b (now places) × (now nothing ≡ number (pos 0)) ⌝ }
     ensures { λ r. ⌜ ((a : Rule) (ds : List Node)
         → FairMaking (words-of (now (entries .entry))) (words-of (now (bodies .entry))) node place step x
-        (now (places .entry)) (words-of (now (out .entry))) b a ds
+        (words-of (now (out .entry))) b (now (places .entry)) a ds
         → Gives (words-of (now (out .exit))) b ds (fold-of (new-of step x a)) r) ⌝ }
 {
     match step {

@@ -7,8 +7,7 @@ use literals::literal;
 use tables::words;
 ghost use mathlib.Core.Path.{_≡_};
 ghost use mathlib.Core.Bool.{_||_};
-ghost use Prim.Native.Nat.{ℕ, _<_, _≤_};
-ghost use lib.ListN.{length, getD};
+ghost use Prim.Native.Nat.{ℕ, _≤_};
 ghost use Rattle.rules.specs.Sum.{Sum};
 ghost use Rattle.rules.specs.Rule.{Test, Rule};
 ghost use Rattle.rules.specs.Literals.{some-literal};
@@ -99,14 +98,6 @@ fn full_over(bodies: &[u8], end: usize, x: usize, period: usize, p: usize) -> bo
     over(bodies, end, Change::Full(x), &last)
 }
 
-// Place i of a list of places.
-pub fn at(places: &[u32], i: usize) -> u32
-    requires { ⌜ i < length (now places) ⌝ }
-    ensures { λ r. ⌜ r ≡ getD (now (places .entry)) i 0 ⌝ }
-{
-    places[i]
-}
-
 // Whether one does in a disjunct. A number is linear in j, so those at j = 1 and at j = P tell; for each bound, and for
 // none.
 pub fn disjuncts_over(
@@ -128,7 +119,7 @@ pub fn disjuncts_over(
     }
     let mut i = 0;
     while i < k {
-        if full_over(bodies, end, x, period, at(places, i) as usize) {
+        if full_over(bodies, end, x, period, sums::place(places, i)) {
             return true;
         }
         i += 1;

@@ -1,14 +1,25 @@
-// The sums that step 3 puts in for x: j for the far-left body, b+j for the full one.
+// The sums that step 3 puts in for x: j for the far-left body, b+j for the full one, b being the bound of the literal at
+// some place.
 use tables::words;
 ghost use mathlib.Core.Path.{_≡_};
-ghost use Prim.Native.Nat.{_≤_};
+ghost use Prim.Native.Nat.{_<_, _≤_};
 ghost use lib.IntN.{pos, natAbs};
+ghost use lib.ListN.{length, getD};
 ghost use Rattle.rules.specs.Sum.{Sum, factor, add, number, limit};
 ghost use Rattle.rules.specs.Eliminate.{most-period};
 ghost use Rattle.rules.specs.Calls.{words as words-of};
 ghost use Rattle.bodies.specs.Body.{BoundAt};
 ghost use Rattle.steps.specs.Put.{SomeBound};
 
+// The place of the literal that gives bound i, among the places of the bounds' literals.
+pub fn place(places: &[u32], i: usize) -> usize
+    requires { ⌜ i < length (now places) ⌝ }
+    ensures { λ r. ⌜ r ≡ getD (now (places .entry)) i 0 ⌝ }
+{
+    places[i] as usize
+}
+
+// The sum j.
 pub fn numeral(j: usize) -> [i64; 7]
     requires { ⌜ j ≤ most-period ⌝ }
     ensures { λ r. ⌜ r ≡ number (pos j) ⌝ }

@@ -1,22 +1,25 @@
 // What becomes of the disjuncts before any of them is built: one folds to true, or so many stay open.
 use crate::blocks;
-use crate::numbers;
 use crate::sums;
+use judging::answers::Judged;
 use judging::judge;
-use judging::judge::Judged;
 ghost use mathlib.Core.Path.{_≡_};
 ghost use mathlib.Core.Bool.{cond};
 ghost use mathlib.Core.List.{[], _∷_};
 ghost use Prim.Native.Nat.{ℕ, _≤_};
 ghost use Rattle.rules.specs.Sum.{Sum};
 ghost use Rattle.rules.specs.Rule.{Rule};
-ghost use Rattle.rules.specs.Steps.{bounds as bounds-of, for-each, disjuncts};
+ghost use Rattle.rules.specs.Steps.{for-each, disjuncts};
+ghost use Rattle.rules.specs.Eliminate.{most-period};
 ghost use Rattle.rules.specs.Calls.{words};
-ghost use Rattle.rules.proofs.Shapes.{fars};
-ghost use Rattle.bodies.specs.Body.{BoundAt, BoundsAt};
+ghost use Rattle.rules.proofs.Disjuncts.{fars};
+ghost use Rattle.bodies.specs.Body.{BoundAt};
+ghost use Rattle.literals.specs.Changes.{InRange};
 ghost use Rattle.steps.specs.Put.{SomeBound};
 ghost use Rattle.judging.specs.Judging.{at-sum, Judging, SomeJudging};
-ghost use Rattle.steps.specs.Blocks.{BodyThere, SomeBodyThere, SomeBodyBounds, Judges, full-at};
+ghost use Rattle.tables.specs.Standing.{RuleAt};
+ghost use Rattle.steps.specs.There.{SomeRuleThere};
+ghost use Rattle.steps.specs.Blocks.{BodyBounds, SomeBodyBounds, Judges, full-at};
 ghost use Rattle.steps.specs.Surveying.{Surveyed};
 
 // One folds to true; or none does, and so many stay open.
@@ -94,9 +97,10 @@ fn far_row(
     x: usize,
     period: usize,
 ) -> Survey
-    requires { ⌜ SomeBodyThere (words (now entries)) (words (now bodies)) node place x period ⌝ }
+    requires { ⌜ SomeRuleThere (words (now entries)) (words (now bodies)) node place × InRange x
+        × (period ≤ most-period) ⌝ }
     ensures { λ r. ⌜ ((a : Rule)
-        → BodyThere (words (now (entries .entry))) (words (now (bodies .entry))) node place x period a
+        → RuleAt (words (now (entries .entry))) (words (now (bodies .entry))) node place a
         → Surveyed (for-each 1 period (fars x a)) r) ⌝ }
 {
     let u = sums::numeral(0);
@@ -113,10 +117,10 @@ fn full_row(
     p: usize,
     period: usize,
 ) -> Survey
-    requires { ⌜ SomeBodyThere (words (now entries)) (words (now bodies)) node place x period
-        × SomeBound (words (now bodies)) x p ⌝ }
+    requires { ⌜ SomeRuleThere (words (now entries)) (words (now bodies)) node place
+        × SomeBound (words (now bodies)) x p × (period ≤ most-period) ⌝ }
     ensures { λ r. ⌜ ((a : Rule) (bound : Sum)
-        → BodyThere (words (now (entries .entry))) (words (now (bodies .entry))) node place x period a
+        → RuleAt (words (now (entries .entry))) (words (now (bodies .entry))) node place a
         → BoundAt (words (now (bodies .entry))) x p bound
         → Surveyed (for-each 1 period (λ j. full-at x a bound j ∷ [])) r) ⌝ }
 {
@@ -136,11 +140,10 @@ pub fn of_disjuncts(
     places: &[u32],
     k: usize,
 ) -> Survey
-    requires { ⌜ SomeBodyBounds (words (now entries)) (words (now bodies)) node place x period (now places) k
-        × (k ≤ 1365) ⌝ }
+    requires { ⌜ SomeBodyBounds (words (now entries)) (words (now bodies)) node place x (now places) k
+        × (period ≤ most-period) × (k ≤ 1365) ⌝ }
     ensures { λ r. ⌜ ((a : Rule)
-        → BodyThere (words (now (entries .entry))) (words (now (bodies .entry))) node place x period a
-        → BoundsAt (words (now (bodies .entry))) x (now (places .entry)) k (bounds-of x a)
+        → BodyBounds (words (now (entries .entry))) (words (now (bodies .entry))) node place x (now (places .entry)) k a
         → Surveyed (disjuncts period x a) r) ⌝ }
 {
     let far = far_row(entries, bodies, node, place, x, period);
@@ -150,7 +153,7 @@ pub fn of_disjuncts(
     let mut many = first;
     let mut i = 0;
     while i < k {
-        let p = numbers::at(places, i) as usize;
+        let p = sums::place(places, i);
         let full = full_row(entries, bodies, node, place, x, p, period);
         let Survey::NoneTrue(more) = full else {
             return full;

@@ -7,48 +7,16 @@ use Prim.Native.Nat.{ℕ, _+_, _*_, _<_}
 use native.Mathlib.Omega.{arith}
 use borrow.Author.Needs.{needs}
 use lib.ListN.{length}
-use Rattle.steps.proofs.AroundLaws.{
-  Call,
-  Kinded,
-  RightFound,
-  RightAnswered,
-  BothAnswered,
-  Linked,
-  InnerAnswered,
-  made-asks,
-  made-gives,
-  first-word,
-  right-asks,
-  entry-there,
-  body-there,
-  left-shorter,
-  next-node,
-  next-place,
-  entries-there,
-  bodies-there,
-  right-shorter,
-  right-around-asks,
-  right-fold-asks,
-  right-rebuilt,
-  right-folded,
-  settled-gives,
-  left-fold-asks,
-  left-around-asks,
-  left-rebuilt,
-  left-folded,
-  joined-asks,
-  joined-gives,
-  chosen-behind,
-  chain-asks,
-  nodes-there,
-  words-there,
-  inner-node,
-  inner-place,
-  inner-short,
-  within-asks,
-  wrapped-asks,
-  wrapped-gives,
-}
+use Rattle.steps.proofs.AroundLaws.{Call, made-asks, made-gives}
+use Rattle.steps.proofs.AroundJoin.{Kinded, RightFound, first-word, right-asks, entry-there, body-there}
+use Rattle.steps.proofs.AroundJoin.{left-shorter, next-node, next-place, entries-there, bodies-there}
+use Rattle.steps.proofs.AroundJoin.{right-shorter, right-around-asks, right-fold-asks}
+use Rattle.steps.proofs.AroundSides.{RightAnswered, BothAnswered, right-rebuilt, right-folded, settled-gives}
+use Rattle.steps.proofs.AroundSides.{left-fold-asks, left-around-asks, left-rebuilt, left-folded}
+use Rattle.steps.proofs.AroundSides.{joined-asks, joined-gives}
+use Rattle.steps.proofs.AroundChain.{Linked, InnerAnswered, chosen-behind, chain-asks, nodes-there, words-there}
+use Rattle.steps.proofs.AroundChain.{inner-node, inner-place, inner-short, within-asks, wrapped-asks}
+use Rattle.steps.proofs.AroundChain.{wrapped-gives}
 use borrow.Fn.Kinds.{In}
 use borrow.Fn.PlainCycle.{Measures, is, falls, and}
 use Rattle.steps.proofs.around.around.Reads as around
@@ -250,7 +218,7 @@ module _ (t : ℕ) where
   -- the kind is read
   kinded : (c : within-lts.After-natural (within-calls t) (within-at t) within.Post)
       → Kinded (within-call (kind-start c)) (c .natural .result)
-  kinded c = record { some = kind-start c .pre .1; apart = c .before .if1 .left; first = c .natural .ensures .1 }
+  kinded c = record { bare = kind-start c .pre .1; apart = c .before .if1 .left; first = c .natural .ensures .1 }
 
   -- the right side is found
   right-found : (c : within-lts.After-right (within-calls t) (within-at t) within.Post)

@@ -3,7 +3,6 @@
 use mathlib.Core.Path.{_≡_, refl, _∙_}
 use Prim.Native.Nat.{_-_, _≤_}
 use native.Mathlib.Omega.{arith}
-use borrow.Author.Needs.{needs}
 use lib.ListN.{length}
 use Rattle.rules.specs.Calls.{words}
 use Rattle.steps.proofs.BlockLaws.{FalseBefore, no-mask-yet, every-mask, bound-asks, one-mask-more}
@@ -19,28 +18,26 @@ abbrev μ-loop : tie.MeasureT-loop
 μ-loop entries bodies node place x j places k masks₀ i₀ masks i = k - i
 
 loop-holds : tie.Need-loop-holds Inv-loop μ-loop
-loop-holds c = (omega arith, refl, no-mask-yet (c .before .before .before .before .args .masks .now))
+loop-holds c =
+    let args = c .before .before .before .before .args in (omega arith, refl, no-mask-yet (args .j) (args .masks .now))
 
-at-requires : tie.Need-at-requires Inv-loop μ-loop
-at-requires c κs =
+place-requires : tie.Need-place-requires Inv-loop μ-loop
+place-requires c κs =
     let start = c .before .before .before .before .before .before in
-    omega (arith, c .loop-test .taken, start .pre .0 .bounds-at .held)
-
-cast-full : tie.Need-cast-full Inv-loop μ-loop
-cast-full c = search needs
+    omega (arith, c .loop-test .taken, start .pre .0 .body .bounds-at .held)
 
 full-requires : tie.Need-full-requires Inv-loop μ-loop
 full-requires c κs =
     let test = c .before in
     let start = test .before .before .before .before .before .before in
-    bound-asks (start .pre .0) (test .loop-test .taken) (c .at .ensures)
+    bound-asks (start .pre .0) (test .loop-test .taken) (c .place .ensures) (start .pre .1)
 
 put-requires : tie.Need-put-requires Inv-loop μ-loop
 put-requires c κs =
     let test = c .before .before .before in
     let at = test .before in
     let start = at .before .before .before .before .before in
-    omega (arith, test .loop-test .taken, at .loop .inv .1, start .pre .1)
+    omega (arith, test .loop-test .taken, at .loop .inv .1, start .pre .2)
 
 add-i : tie.Need-add-i Inv-loop μ-loop
 add-i c =
@@ -56,22 +53,24 @@ loop-again : tie.Need-loop-again Inv-loop μ-loop
 loop-again c =
     let kept = c .before .before in
     let judged = kept .before .before in
-    let mask = judged .before in
-    let test = mask .before in
+    let found = judged .before in
+    let test = found .before in
     let at = test .before in
     let start = at .before .before .before .before .before in (
       omega (arith, test .loop-test .taken),
       kept .put .kept .0 ∙ at .loop .inv .1,
-      one-mask-more (at .loop .masks) _ _ _ (kept .put .ensures) (test .loop-test .taken)
-          (omega (arith, at .loop .inv .1, start .pre .1))
-          (mask .at .ensures) (judged .full .ensures) (at .loop .inv .2),
+      one-mask-more (start .args .j) (at .loop .masks) _ _ _ (kept .put .ensures) (test .loop-test .taken)
+          (omega (arith, at .loop .inv .1, start .pre .2))
+          (found .place .ensures) (judged .full .ensures) (at .loop .inv .2),
     )
 
 same-length : tie.Need-same-length Inv-loop μ-loop
 same-length c = c .before .loop .inv .1
 
 returns : tie.Need-returns Inv-loop μ-loop
-returns c = every-mask (c .before .loop .masks) _ (c .loop-test .left) (c .before .loop .inv .2)
+returns c =
+    let start = c .before .before .before .before .before .before in
+    every-mask (start .args .j) (c .before .loop .masks) _ (c .loop-test .left) (c .before .loop .inv .2)
 
 pub false-at-bounds-spec : {M : Type 1} → statement M
 false-at-bounds-spec =
@@ -80,8 +79,7 @@ false-at-bounds-spec =
     Inv-loop
     μ-loop
     loop-holds
-    at-requires
-    cast-full
+    place-requires
     full-requires
     put-requires
     add-i

@@ -12,10 +12,14 @@ slice-aggregate-judge : tie.Need-slice-aggregate-judge
 slice-aggregate-judge c = search needs
 
 judge-requires : tie.Need-judge-requires
-judge-requires c κs = some-far-judging _ (c .before .numeral .ensures) (c .before .before .before .before .pre)
+judge-requires c κs =
+    let (some, setting, upto) = c .before .before .before .before .pre in
+    some-far-judging upto setting _ (c .before .numeral .ensures) some
 
 returns : tie.Need-returns
-returns c = far-judged _ (c .before .before .numeral .ensures) _ _ (c .judge .ensures)
+returns c =
+    let (_, setting, upto) = c .before .before .before .before .before .pre in
+    far-judged upto setting _ (c .before .before .numeral .ensures) _ _ (c .judge .ensures)
 
 pub far-spec : {M : Type 1} → statement M
 far-spec = tie.close (tie.spec numeral-requires slice-aggregate-judge judge-requires returns)

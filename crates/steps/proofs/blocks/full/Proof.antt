@@ -15,12 +15,15 @@ judge-requires : tie.Need-judge-requires
 judge-requires c κs =
     let made = c .before in
     let start = made .before .before .before in
-    let some = start .pre .1 in
-    some-full-judging (some .bound) (some .at) _ (made .above .ensures (some .bound) (some .at)) (start .pre .0)
+    let (rule, some, upto) = start .pre in
+    let sum = made .above .ensures (some .bound) (some .at) in
+    some-full-judging upto (some .setting) (some .bound) (some .at) _ sum rule
 
 returns : tie.Need-returns
-returns c = λ a bound there at.
-    full-judged bound at _ (c .before .before .above .ensures bound at) _ _ (c .judge .ensures) a there
+returns c =
+    let (_, some, upto) = c .before .before .before .before .before .pre in
+    let sum = c .before .before .above .ensures in
+    λ a bound there at. full-judged upto (some .setting) bound at _ (sum bound at) _ _ (c .judge .ensures) a there
 
 pub full-spec : {M : Type 1} → statement M
 full-spec = tie.close (tie.spec above-requires slice-aggregate-judge judge-requires returns)

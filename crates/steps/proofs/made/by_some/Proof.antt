@@ -1,7 +1,7 @@
 -- `made::by_some` meets its contract: the body is folded as it is, then negated, bound and negated.
 -- Assumes nothing.
 use borrow.Author.Needs.{needs}
-use Rattle.steps.proofs.MakingLaws.{setting-low, same-ready, body-answer, opposite-answer, some-answer}
+use Rattle.steps.proofs.MakingLaws.{setting-low, body-ready, body-answer, opposite-answer, some-answer}
 use Rattle.steps.proofs.MakingLaws.{by-some-gives}
 use Rattle.steps.proofs.made.by_some.Statement.{statement}
 use Rattle.steps.proofs.made.by_some.Tie as tie
@@ -19,7 +19,7 @@ negated c = c .before .before .before .before
 fold-requires : tie.Need-fold-requires
 fold-requires c κs =
     let (some, zeros) = c .before .before .before .before .pre in
-    record { rule = some .rule; tail = some .tail; ready = same-ready _ zeros (some .making) }
+    record { rule = some .rule; tail = some .tail; ready = body-ready _ zeros (some .making) }
 
 negated-requires : tie.Need-negated-requires
 negated-requires c κs =

@@ -1,7 +1,7 @@
 -- `made::made` meets its contract: the setting is read, and the body stands behind the quantifier's two words.
 -- Assumes nothing.
 use borrow.Author.Needs.{needs}
-use Rattle.steps.proofs.MakingLaws.{there, fair-making, read-gives}
+use Rattle.steps.proofs.StepLaws.{there, fair-making, read-gives}
 use Rattle.steps.proofs.made.made.Statement.{statement}
 use Rattle.steps.proofs.made.made.Tie as tie
 

@@ -1,8 +1,8 @@
 -- `made::of_body` meets its contract: each step's own function does.
 -- Assumes nothing.
 use borrow.Author.Needs.{needs}
-use Rattle.steps.proofs.MakingLaws.{some-known, known-gives, factor-fair, some-disjoining, disjunction-gives}
-use Rattle.steps.proofs.MakingLaws.{truth-gives}
+use Rattle.steps.proofs.StepLaws.{some-known, known-gives, factor-fair, some-disjoining, disjunction-gives}
+use Rattle.steps.proofs.StepLaws.{truth-gives}
 use Rattle.steps.proofs.made.of_body.Statement.{statement}
 use Rattle.steps.proofs.made.of_body.Tie as tie
 

@@ -5,8 +5,9 @@ use lib.ListN.{length}
 use Prim.Native.Nat.{_≤_}
 use Rattle.rules.specs.Table.{most-words}
 use Rattle.rules.specs.Calls.{words}
-use Rattle.steps.proofs.MakingLaws.{setting-low, same-room, divisor-asks, scaled-ready, joins}
-use Rattle.steps.proofs.MakingLaws.{both-answer, scaled-gives}
+use Rattle.steps.proofs.ThereLaws.{same-room}
+use Rattle.steps.proofs.MakingLaws.{setting-low}
+use Rattle.steps.proofs.FactorLaws.{divisor-asks, scaled-ready, joins, both-answer, scaled-gives}
 use Rattle.steps.proofs.made.scaled.Statement.{statement}
 use Rattle.steps.proofs.made.scaled.Tie as tie
 
@@ -27,7 +28,7 @@ abbrev fold : tie.After-joined → tie.After-fold
 fold c = c .before .before .before .before
 
 room : (c : tie.After-put) → length (words (c .put .last .1 .1 .1 .0)) ≤ most-words
-room c = same-room _ _ (c .put .kept .1 .1 .1 .0) (start (unit c) .pre .0 .making .room)
+room c = same-room _ _ (c .put .kept .1 .1 .1 .0) (start (unit c) .pre .0 .making .on .room)
 
 unit-requires : tie.Need-unit-requires
 unit-requires c κs = search needs

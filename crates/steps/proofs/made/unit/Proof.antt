@@ -1,7 +1,7 @@
 -- `made::unit` meets its contract: a 1 is stored at place x among zeros.
 -- Assumes nothing.
 use borrow.Author.Needs.{needs}
-use Rattle.steps.proofs.MakingLaws.{unit-is}
+use Rattle.steps.proofs.FactorLaws.{unit-is}
 use Rattle.steps.proofs.made.unit.Statement.{statement}
 use Rattle.steps.proofs.made.unit.Tie as tie
 

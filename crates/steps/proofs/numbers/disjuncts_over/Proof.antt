@@ -35,18 +35,15 @@ returns c =
 loop-holds : tie.Need-loop-holds Inv-loop μ-loop
 loop-holds c = λ n a b at. refl
 
-at-requires : tie.Need-at-requires Inv-loop μ-loop
-at-requires c κs =
+place-requires : tie.Need-place-requires Inv-loop μ-loop
+place-requires c κs =
     let start = c .before .before .before .before .before .before in
     omega (arith, c .loop-test .taken, start .pre .0 .at .held)
-
-cast-full-over : tie.Need-cast-full-over Inv-loop μ-loop
-cast-full-over c = search needs
 
 full-over-requires : tie.Need-full-over-requires Inv-loop μ-loop
 full-over-requires c κs =
     let (some, from, upto, _, most) = c .before .before .before .before .before .before .before .pre in
-    (bounds-body some, some-bound-here some (from, upto) _ _ (c .before .loop-test .taken) (c .at .ensures), most)
+    (bounds-body some, some-bound-here some (from, upto) _ _ (c .before .loop-test .taken) (c .place .ensures), most)
 
 returns-2 : tie.Need-returns-2 Inv-loop μ-loop
 returns-2 c =
@@ -58,7 +55,7 @@ returns-2 c =
     bounds-decide _ _ a (start .pre .3) (sym (loop .before .if1 .left) ∙ far .far-over .ensures n a b)
     (left-one _ a at _ (loop .loop .inv n a b at) (read .before .loop-test .taken)
     (sym (c .if2 .taken) ∙ c .before .full-over .ensures n a _ b
-    (bound-here at _ _ (read .before .loop-test .taken) (read .at .ensures))))
+    (bound-here at _ _ (read .before .loop-test .taken) (read .place .ensures))))
 
 add-i : tie.Need-add-i Inv-loop μ-loop
 add-i c = search needs
@@ -72,7 +69,7 @@ loop-again c =
     λ n a b at.
     left-none _ a at _ (read .before .before .loop .inv n a b at) (read .before .loop-test .taken)
     (sym (c .if2 .left) ∙ c .before .full-over .ensures n a _ b
-    (bound-here at _ _ (read .before .loop-test .taken) (read .at .ensures)))
+    (bound-here at _ _ (read .before .loop-test .taken) (read .place .ensures)))
 
 returns-3 : tie.Need-returns-3 Inv-loop μ-loop
 returns-3 c =
@@ -92,8 +89,7 @@ disjuncts-over-spec =
     far-over-requires
     returns
     loop-holds
-    at-requires
-    cast-full-over
+    place-requires
     full-over-requires
     returns-2
     add-i

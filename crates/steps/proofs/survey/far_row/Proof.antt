@@ -13,10 +13,14 @@ slice-aggregate-row : tie.Need-slice-aggregate-row
 slice-aggregate-row c = search needs
 
 row-requires : tie.Need-row-requires
-row-requires c κs = some-far-judging _ (c .before .numeral .ensures) (c .before .before .before .before .pre)
+row-requires c κs =
+    let (some, setting, upto) = c .before .before .before .before .pre in
+    some-far-judging upto setting _ (c .before .numeral .ensures) some
 
 returns : tie.Need-returns
-returns c = far-row-seen _ _ (c .before .before .numeral .ensures) (c .row .ensures)
+returns c =
+    let (_, setting, upto) = c .before .before .before .before .before .pre in
+    far-row-seen _ upto setting _ (c .before .before .numeral .ensures) (c .row .ensures)
 
 pub far-row-spec : {M : Type 1} → statement M
 far-row-spec = tie.close (tie.spec numeral-requires slice-aggregate-row row-requires returns)

@@ -16,12 +16,15 @@ row-requires : tie.Need-row-requires
 row-requires c κs =
     let made = c .before in
     let start = made .before .before .before in
-    let some = start .pre .1 in
-    some-full-judging (some .bound) (some .at) _ (made .above .ensures (some .bound) (some .at)) (start .pre .0)
+    let (rule, some, upto) = start .pre in
+    let sum = made .above .ensures (some .bound) (some .at) in
+    some-full-judging upto (some .setting) (some .bound) (some .at) _ sum rule
 
 returns : tie.Need-returns
-returns c = λ a bound there at.
-    full-row-seen _ bound at _ (c .before .before .above .ensures bound at) (c .row .ensures) a there
+returns c =
+    let (_, some, upto) = c .before .before .before .before .before .pre in
+    let sum = c .before .before .above .ensures in
+    λ a bound there at. full-row-seen _ upto (some .setting) bound at _ (sum bound at) (c .row .ensures) a there
 
 pub full-row-spec : {M : Type 1} → statement M
 full-row-spec = tie.close (tie.spec above-requires slice-aggregate-row row-requires returns)

@@ -1,9 +1,9 @@
--- `disjunction::far_at` meets its contract: it is false, or the sum is j.
+-- `disjunct::far_at` meets its contract: it is false, or the sum is j.
 -- Assumes nothing.
 use borrow.Author.Needs.{needs}
 use Rattle.steps.proofs.DisjunctLaws.{some-with, answered-with, false-disjunct}
-use Rattle.steps.proofs.disjunction.far_at.Statement.{statement}
-use Rattle.steps.proofs.disjunction.far_at.Tie as tie
+use Rattle.steps.proofs.disjunct.far_at.Statement.{statement}
+use Rattle.steps.proofs.disjunct.far_at.Tie as tie
 
 returns : tie.Need-returns
 returns c = λ a l ds told d.

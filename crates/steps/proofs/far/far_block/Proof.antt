@@ -1,14 +1,14 @@
--- `disjunction::far_block` meets its contract: the far-left bodies of the block's j's over this one are answered.
+-- `far::far_block` meets its contract: the far-left bodies of the block's j's over this one are answered.
 -- Assumes nothing.
 use mathlib.Core.Path.{_≡_, refl, _∙_}
 use Prim.Native.Nat.{_≤_}
 use native.Mathlib.Omega.{arith}
 use lib.ListN.{length}
 use Rattle.rules.specs.Calls.{words}
-use Rattle.steps.proofs.InBlockLaws.{FarSoFar, no-far-yet, far-block-fits, every-far, far-asks, far-done}
-use Rattle.steps.proofs.DisjunctLaws.{same-room}
-use Rattle.steps.proofs.disjunction.far_block.Statement.{statement}
-use Rattle.steps.proofs.disjunction.far_block.Tie as tie
+use Rattle.steps.proofs.FarLaws.{FarSoFar, far-block-starts, far-block-over, far-asks, far-done}
+use Rattle.steps.proofs.ThereLaws.{same-room}
+use Rattle.steps.proofs.far.far_block.Statement.{statement}
+use Rattle.steps.proofs.far.far_block.Tie as tie
 
 abbrev Inv-loop : tie.InvT-loop
 Inv-loop entries bodies node place x low high mask out₀ b j₀ f₀ out j f =
@@ -19,7 +19,7 @@ abbrev μ-loop : tie.MeasureT-loop
 μ-loop entries bodies node place x low high mask out₀ b j₀ f₀ out j f = j
 
 loop-holds : tie.Need-loop-holds Inv-loop μ-loop
-loop-holds c = (far-block-fits (c .before .before .before .pre) .0, omega arith, refl, no-far-yet)
+loop-holds c = (c .before .before .before .pre .far-block .block .some, omega arith, refl, far-block-starts)
 
 sub-has : tie.Need-sub-has Inv-loop μ-loop
 sub-has c = omega (arith, c .loop-test .taken)
@@ -31,7 +31,7 @@ has-requires : tie.Need-has-requires Inv-loop μ-loop
 has-requires c κs =
     let at = c .before in
     let start = at .before .before .before .before in
-    omega (arith, c .loop-test .taken, at .loop .inv .1, far-block-fits (start .pre) .1)
+    omega (arith, c .loop-test .taken, at .loop .inv .1, start .pre .far-block .block .short)
 
 far-at-requires : tie.Need-far-at-requires Inv-loop μ-loop
 far-at-requires c κs =
@@ -65,7 +65,7 @@ same-length : tie.Need-same-length Inv-loop μ-loop
 same-length c = c .before .loop .inv .2
 
 returns : tie.Need-returns Inv-loop μ-loop
-returns c = every-far _ (c .before .loop .inv .0) (c .loop-test .left) (c .before .loop .inv .3)
+returns c = far-block-over _ (c .before .loop .inv .0) (c .loop-test .left) (c .before .loop .inv .3)
 
 pub far-block-spec : {M : Type 1} → statement M
 far-block-spec =

@@ -1,15 +1,17 @@
--- `disjunction::full_blocks` meets its contract: the full bodies of the j's over this one are answered.
+-- `full::full_blocks` meets its contract: the full bodies of the j's over this one are answered.
 -- Assumes nothing.
 use mathlib.Core.Path.{_≡_, refl, sym, _∙_}
-use Prim.Native.Nat.{_≤_}
+use Prim.Native.Nat.{_-_, _<_, _≤_}
 use native.Mathlib.Omega.{arith}
 use borrow.Author.Needs.{needs}
 use lib.ListN.{length}
 use Rattle.rules.specs.Calls.{words}
-use Rattle.steps.proofs.PeriodLaws.{full-block-asks, full-block-done}
-use Rattle.steps.proofs.PeriodLaws.{FullDone, no-full-yet, full-over, full-settled, next-block, masks-ask}
-use Rattle.steps.proofs.disjunction.full_blocks.Statement.{statement}
-use Rattle.steps.proofs.disjunction.full_blocks.Tie as tie
+use Rattle.steps.specs.Disjoining.{Block}
+use Rattle.steps.proofs.PeriodLaws.{next-block}
+use Rattle.steps.proofs.FullLaws.{FullDone, no-full-yet, full-over, full-settled, masks-ask}
+use Rattle.steps.proofs.FullLaws.{full-block-asks, full-block-done}
+use Rattle.steps.proofs.full.full_blocks.Statement.{statement}
+use Rattle.steps.proofs.full.full_blocks.Tie as tie
 
 abbrev Inv-loop : tie.InvT-loop
 Inv-loop entries bodies node place x period places masks₀ k out₀ b j₀ f₀ masks out j f =
@@ -18,6 +20,24 @@ Inv-loop entries bodies node place x period places masks₀ k out₀ b j₀ f₀
 
 abbrev μ-loop : tie.MeasureT-loop
 μ-loop entries bodies node place x period places masks₀ k out₀ b j₀ f₀ masks out j f = j
+
+-- the ways back: from the masks of a block to its width, from there to the loop's test, and to the start
+abbrev cut : tie.After-false-at-bounds Inv-loop μ-loop → tie.After-width Inv-loop μ-loop
+cut c = c .before .before
+
+abbrev test : tie.After-width Inv-loop μ-loop → tie.In-loop Inv-loop μ-loop
+test c = c .before .before .before
+
+abbrev start : tie.At-loop Inv-loop μ-loop → tie.Start Inv-loop μ-loop
+start c = c .before .before .before .before .before .before
+
+-- the block has some j's, and no more than are left
+some-j : (c : tie.After-width Inv-loop μ-loop) → 0 < c .width .result
+some-j c = c .width .ensures .2 (test c .loop-test .taken)
+
+block : (c : tie.After-width Inv-loop μ-loop)
+    → let at = test c .before in Block (at .loop .j - c .width .result) (at .loop .j) (start at .args .period)
+block c = next-block _ _ _ (c .width .ensures .0) (c .width .ensures .1) (test c .before .loop .inv .0)
 
 loop-holds : tie.Need-loop-holds Inv-loop μ-loop
 loop-holds c = (omega arith, refl, refl, no-full-yet)
@@ -44,52 +64,39 @@ sub-low : tie.Need-sub-low Inv-loop μ-loop
 sub-low c = omega (arith, c .width .ensures)
 
 add-false-at-bounds : tie.Need-add-false-at-bounds Inv-loop μ-loop
-add-false-at-bounds c = omega (arith, c .width .ensures, c .before .before .before .loop-test .taken)
+add-false-at-bounds c = omega (arith, c .width .ensures, test c .loop-test .taken)
 
 false-at-bounds-requires : tie.Need-false-at-bounds-requires Inv-loop μ-loop
 false-at-bounds-requires c κs =
-    let cut = c .before in
-    let test = cut .before .before .before in
-    let at = test .before in
-    let start = at .before .before .before .before .before .before in
-    masks-ask _ (omega (arith, cut .width .ensures .2 (test .loop-test .taken), at .loop .inv .0))
-    (at .loop .masks) (omega (arith, at .loop .inv .2, start .pre .1)) (start .pre .0)
+    let at = test (c .before) .before in
+    let (some, long) = start at .pre in
+    masks-ask _ (omega (arith, some-j (c .before), at .loop .inv .0)) (at .loop .masks)
+    (omega (arith, at .loop .inv .2, long)) some
 
 full-block-requires : tie.Need-full-block-requires Inv-loop μ-loop
 full-block-requires c κs =
     let judged = c .before .before .before .before in
-    let cut = judged .before .before in
-    let test = cut .before .before .before in
-    let at = test .before in
-    let start = at .before .before .before .before .before .before in
-    full-block-asks (at .loop .inv .3)
-    (next-block _ _ _ (cut .width .ensures .0) (cut .width .ensures .1) (at .loop .inv .0))
-    (omega (arith, cut .width .ensures .2 (test .loop-test .taken)))
-    (omega (arith, judged .false-at-bounds .kept .1 .1 .1 .1 .1 .1 .1 .1 .0, at .loop .inv .2, start .pre .1))
-    (judged .false-at-bounds .ensures) (start .pre .0)
+    let at = test (cut judged) .before in
+    let (some, long) = start at .pre in
+    let same = judged .false-at-bounds .kept .1 .1 .1 .1 .1 .1 .1 .1 .0 in
+    full-block-asks (at .loop .inv .3) (block (cut judged)) (omega (arith, same, at .loop .inv .2, long))
+    (judged .false-at-bounds .ensures) some
 
 loop-less : tie.Need-loop-less Inv-loop μ-loop
 loop-less c =
-    let cut = c .before .before .before .before .before .before .before .before .before in
-    let test = cut .before .before .before in
-    omega (arith, cut .width .ensures .2 (test .loop-test .taken), test .loop-test .taken)
+    let width = cut (c .before .before .before .before .before .before .before) in
+    omega (arith, some-j width, test width .loop-test .taken)
 
 loop-again : tie.Need-loop-again Inv-loop μ-loop
 loop-again c =
     let put = c .before .before in
     let judged = put .before .before .before .before .before in
-    let cut = judged .before .before in
-    let test = cut .before .before .before in
-    let at = test .before in
-    let start = at .before .before .before .before .before .before in
+    let at = test (cut judged) .before in
     let same = judged .false-at-bounds .kept .1 .1 .1 .1 .1 .1 .1 .1 .0 in (
       omega (arith, at .loop .inv .0),
       put .full-block .kept .1 .1 .1 .1 .1 .1 .1 .1 .1 .1 .0 ∙ at .loop .inv .1,
       same ∙ at .loop .inv .2,
-      full-block-done (at .loop .inv .3)
-          (next-block _ _ _ (cut .width .ensures .0) (cut .width .ensures .1) (at .loop .inv .0))
-          (omega (arith, cut .width .ensures .2 (test .loop-test .taken)))
-          (omega (arith, same, at .loop .inv .2, start .pre .1))
+      full-block-done (at .loop .inv .3) (block (cut judged)) (omega (arith, same, at .loop .inv .2, start at .pre .1))
           (judged .false-at-bounds .ensures) _ _ (put .full-block .ensures),
     )
 

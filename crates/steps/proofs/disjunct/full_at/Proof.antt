@@ -1,9 +1,9 @@
--- `disjunction::full_at` meets its contract: it is false, or the sum is the bound with j added.
+-- `disjunct::full_at` meets its contract: it is false, or the sum is the bound with j added.
 -- Assumes nothing.
 use borrow.Author.Needs.{needs}
 use Rattle.steps.proofs.DisjunctLaws.{some-bound, some-with, answered-with, false-disjunct}
-use Rattle.steps.proofs.disjunction.full_at.Statement.{statement}
-use Rattle.steps.proofs.disjunction.full_at.Tie as tie
+use Rattle.steps.proofs.disjunct.full_at.Statement.{statement}
+use Rattle.steps.proofs.disjunct.full_at.Tie as tie
 
 returns : tie.Need-returns
 returns c = λ bound a l ds at told d.

@@ -1,9 +1,9 @@
--- `disjunction::at` meets its contract.
+-- `sums::place` meets its contract.
 -- Assumes nothing.
 use native.Mathlib.Omega.{arith}
 use borrow.Author.Needs.{needs}
-use Rattle.steps.proofs.disjunction.at.Statement.{statement}
-use Rattle.steps.proofs.disjunction.at.Tie as tie
+use Rattle.steps.proofs.sums.place.Statement.{statement}
+use Rattle.steps.proofs.sums.place.Tie as tie
 
 mul-result : tie.Need-mul-result
 mul-result c = search needs
@@ -17,5 +17,5 @@ cast-result c = omega (arith, c .shared-slice-known .given (c .before .args .i))
 returns : tie.Need-returns
 returns c = search needs
 
-pub at-spec : {M : Type 1} → statement M
-at-spec = tie.close (tie.spec mul-result shared-slice-read-result cast-result returns)
+pub place-spec : {M : Type 1} → statement M
+place-spec = tie.close (tie.spec mul-result shared-slice-read-result cast-result returns)

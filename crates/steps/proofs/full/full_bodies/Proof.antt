@@ -1,9 +1,9 @@
--- `disjunction::full_bodies` meets its contract: without a bound there are none; else the masks are lent.
+-- `full::full_bodies` meets its contract: without a bound there are none; else the masks are lent.
 -- Assumes nothing.
 use borrow.Author.Needs.{needs}
-use Rattle.steps.proofs.PeriodLaws.{no-full}
-use Rattle.steps.proofs.disjunction.full_bodies.Statement.{statement}
-use Rattle.steps.proofs.disjunction.full_bodies.Tie as tie
+use Rattle.steps.proofs.FullLaws.{no-full}
+use Rattle.steps.proofs.full.full_bodies.Statement.{statement}
+use Rattle.steps.proofs.full.full_bodies.Tie as tie
 
 returns : tie.Need-returns
 returns c = no-full (c .if1 .taken)

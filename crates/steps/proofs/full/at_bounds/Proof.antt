@@ -1,4 +1,4 @@
--- `disjunction::at_bounds` meets its contract: the full bodies from bound i on are answered.
+-- `full::at_bounds` meets its contract: the full bodies from bound i on are answered.
 -- Assumes nothing.
 use mathlib.Core.Path.{_≡_, refl, _∙_}
 use Prim.Native.Nat.{_≤_}
@@ -6,9 +6,9 @@ use native.Mathlib.Omega.{arith}
 use lib.ListN.{length}
 use Rattle.rules.specs.Calls.{words}
 use Rattle.steps.proofs.BoundsLaws.{FromBound, no-bound-yet, every-bound, full-asks, full-done}
-use Rattle.steps.proofs.DisjunctLaws.{same-room}
-use Rattle.steps.proofs.disjunction.at_bounds.Statement.{statement}
-use Rattle.steps.proofs.disjunction.at_bounds.Tie as tie
+use Rattle.steps.proofs.ThereLaws.{same-room}
+use Rattle.steps.proofs.full.at_bounds.Statement.{statement}
+use Rattle.steps.proofs.full.at_bounds.Tie as tie
 
 abbrev Inv-loop : tie.InvT-loop
 Inv-loop entries bodies node place x j m places masks k out₀ b i₀ f₀ out i f =
@@ -18,6 +18,13 @@ Inv-loop entries bodies node place x j m places masks k out₀ b i₀ f₀ out i
 abbrev μ-loop : tie.MeasureT-loop
 μ-loop entries bodies node place x j m places masks k out₀ b i₀ f₀ out i f = i
 
+-- the ways back: from the place of a bound to the loop's test, and from there to the start
+abbrev test : tie.After-place Inv-loop μ-loop → tie.In-loop Inv-loop μ-loop
+test c = c .before .before .before
+
+abbrev start : tie.In-loop Inv-loop μ-loop → tie.Start Inv-loop μ-loop
+start c = c .before .before .before .before .before .before .before
+
 loop-holds : tie.Need-loop-holds Inv-loop μ-loop
 loop-holds c = (omega arith, refl, no-bound-yet)
 
@@ -26,51 +33,39 @@ sub-i c = omega (arith, c .loop-test .taken)
 
 at-requires : tie.Need-at-requires Inv-loop μ-loop
 at-requires c κs =
-    let at = c .before in
-    let start = at .before .before .before .before .before .before in
-    omega (arith, c .loop-test .taken, at .loop .inv .0, start .pre .at-bounds .judged .1)
+    omega (arith, c .loop-test .taken, c .before .loop .inv .0, start c .pre .at-bounds .judged .1)
 
 has-requires : tie.Need-has-requires Inv-loop μ-loop
-has-requires c κs =
-    let start = c .before .before .before .before .before .before .before .before in
-    start .pre .at-bounds .judged .0
+has-requires c κs = start (c .before) .pre .at-bounds .judged .0
 
-at-requires-2 : tie.Need-at-requires-2 Inv-loop μ-loop
-at-requires-2 c κs =
-    let test = c .before .before in
-    let at = test .before in
-    let start = at .before .before .before .before .before .before in
-    omega (arith, test .loop-test .taken, at .loop .inv .0, start .pre .at-bounds .bounds-at .held)
+place-requires : tie.Need-place-requires Inv-loop μ-loop
+place-requires c κs =
+    let at = c .before .before in
+    omega (arith, at .loop-test .taken, at .before .loop .inv .0, start at .pre .at-bounds .bounds-at .held)
 
 full-at-requires : tie.Need-full-at-requires Inv-loop μ-loop
 full-at-requires c κs =
     let found = c .before in
     let told = found .before in
-    let mask = told .before in
-    let test = mask .before in
-    let at = test .before in
-    let start = at .before .before .before .before .before .before in
-    full-asks (at .loop .inv .2) (omega (arith, test .loop-test .taken)) (at .loop .inv .0)
-    (found .at2 .ensures) (mask .at .ensures) (told .has .ensures) (start .pre)
+    let at = test found in
+    full-asks (at .before .loop .inv .2) (omega (arith, at .loop-test .taken)) (at .before .loop .inv .0)
+    (found .place .ensures) (told .before .at .ensures) (told .has .ensures) (start at .pre)
 
 loop-less : tie.Need-loop-less Inv-loop μ-loop
-loop-less c =
-    let test = c .before .before .before .before .before .before .before in
-    omega (arith, test .loop-test .taken)
+loop-less c = omega (arith, test (c .before .before .before .before) .loop-test .taken)
 
 loop-again : tie.Need-loop-again Inv-loop μ-loop
 loop-again c =
     let put = c .before .before in
     let found = put .before .before in
     let told = found .before in
-    let mask = told .before in
-    let test = mask .before in
-    let at = test .before in
-    let kept = put .full-at .kept .1 .1 .1 .1 .1 .1 .1 .1 .0 ∙ at .loop .inv .1 in (
-      omega (arith, at .loop .inv .0),
+    let at = test found in
+    let inv = at .before .loop .inv in
+    let kept = put .full-at .kept .1 .1 .1 .1 .1 .1 .1 .1 .0 ∙ inv .1 in (
+      omega (arith, inv .0),
       kept,
-      full-done (at .loop .inv .2) (omega (arith, test .loop-test .taken)) (at .loop .inv .0) (found .at2 .ensures)
-          (mask .at .ensures) (told .has .ensures) _ _ (same-room _ _ kept) (put .full-at .ensures),
+      full-done (inv .2) (omega (arith, at .loop-test .taken)) (inv .0) (found .place .ensures)
+          (told .before .at .ensures) (told .has .ensures) _ _ (same-room _ _ kept) (put .full-at .ensures),
     )
 
 same-length : tie.Need-same-length Inv-loop μ-loop
@@ -89,7 +84,7 @@ at-bounds-spec =
     sub-i
     at-requires
     has-requires
-    at-requires-2
+    place-requires
     full-at-requires
     loop-less
     loop-again

@@ -1,4 +1,4 @@
--- `disjunction::far_bodies` meets its contract: the far-left bodies of the j's over this one are answered.
+-- `far::far_bodies` meets its contract: the far-left bodies of the j's over this one are answered.
 -- Assumes nothing.
 use mathlib.Core.Path.{_≡_, refl, _∙_}
 use Prim.Native.Nat.{_≤_}
@@ -6,10 +6,10 @@ use native.Mathlib.Omega.{arith}
 use borrow.Author.Needs.{needs}
 use lib.ListN.{length}
 use Rattle.rules.specs.Calls.{words}
-use Rattle.steps.proofs.PeriodLaws.{far-block-asks, far-block-done}
-use Rattle.steps.proofs.PeriodLaws.{FarDone, no-far-yet, far-over, next-block, far-mask-asks}
-use Rattle.steps.proofs.disjunction.far_bodies.Statement.{statement}
-use Rattle.steps.proofs.disjunction.far_bodies.Tie as tie
+use Rattle.steps.proofs.PeriodLaws.{next-block}
+use Rattle.steps.proofs.FarLaws.{FarDone, no-far-yet, far-over, far-mask-asks, far-block-asks, far-block-done}
+use Rattle.steps.proofs.far.far_bodies.Statement.{statement}
+use Rattle.steps.proofs.far.far_bodies.Tie as tie
 
 abbrev Inv-loop : tie.InvT-loop
 Inv-loop entries bodies node place x period out₀ b j₀ f₀ out j f =
@@ -47,7 +47,7 @@ far-block-requires c κs =
     let start = at .before .before .before .before in
     far-block-asks (at .loop .inv .2)
     (next-block _ _ _ (cut .width .ensures .0) (cut .width .ensures .1) (at .loop .inv .0))
-    (omega (arith, cut .width .ensures .2 (test .loop-test .taken))) (judged .far .ensures) (start .pre)
+    (judged .far .ensures) (start .pre)
 
 loop-less : tie.Need-loop-less Inv-loop μ-loop
 loop-less c =
@@ -66,8 +66,7 @@ loop-again c =
       put .far-block .kept .1 .1 .1 .1 .1 .1 .1 .1 .0 ∙ at .loop .inv .1,
       far-block-done (at .loop .inv .2)
           (next-block _ _ _ (cut .width .ensures .0) (cut .width .ensures .1) (at .loop .inv .0))
-          (omega (arith, cut .width .ensures .2 (test .loop-test .taken))) (judged .far .ensures) _ _
-          (put .far-block .ensures),
+          (judged .far .ensures) _ _ (put .far-block .ensures),
     )
 
 same-length : tie.Need-same-length Inv-loop μ-loop

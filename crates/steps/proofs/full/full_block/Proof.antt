@@ -1,13 +1,14 @@
--- `disjunction::full_block` meets its contract: the full bodies of the block's j's over this one are answered.
+-- `full::full_block` meets its contract: the full bodies of the block's j's over this one are answered.
 -- Assumes nothing.
 use mathlib.Core.Path.{_≡_, refl, _∙_}
 use Prim.Native.Nat.{_≤_}
 use native.Mathlib.Omega.{arith}
 use lib.ListN.{length}
 use Rattle.rules.specs.Calls.{words}
-use Rattle.steps.proofs.InBlockLaws.{FullSoFar, no-j-yet, block-fits, every-j, at-bounds-asks, at-bounds-done}
-use Rattle.steps.proofs.disjunction.full_block.Statement.{statement}
-use Rattle.steps.proofs.disjunction.full_block.Tie as tie
+use Rattle.steps.proofs.FullLaws.{FullSoFar, full-block-starts, full-block-over, at-bounds-asks}
+use Rattle.steps.proofs.FullLaws.{at-bounds-done}
+use Rattle.steps.proofs.full.full_block.Statement.{statement}
+use Rattle.steps.proofs.full.full_block.Tie as tie
 
 abbrev Inv-loop : tie.InvT-loop
 Inv-loop entries bodies node place x low high places masks k out₀ b j₀ f₀ out j f =
@@ -18,7 +19,9 @@ abbrev μ-loop : tie.MeasureT-loop
 μ-loop entries bodies node place x low high places masks k out₀ b j₀ f₀ out j f = j
 
 loop-holds : tie.Need-loop-holds Inv-loop μ-loop
-loop-holds c = (block-fits (c .before .before .before .before .before .pre) .0, omega arith, refl, no-j-yet)
+loop-holds c =
+    let start = c .before .before .before .before .before in
+    (start .pre .full-block .block .some, omega arith, refl, full-block-starts)
 
 sub-m : tie.Need-sub-m Inv-loop μ-loop
 sub-m c = omega (arith, c .loop-test .taken)
@@ -54,7 +57,7 @@ same-length : tie.Need-same-length Inv-loop μ-loop
 same-length c = c .before .loop .inv .2
 
 returns : tie.Need-returns Inv-loop μ-loop
-returns c = every-j _ (c .before .loop .inv .0) (c .loop-test .left) (c .before .loop .inv .3)
+returns c = full-block-over _ (c .before .loop .inv .0) (c .loop-test .left) (c .before .loop .inv .3)
 
 pub full-block-spec : {M : Type 1} → statement M
 full-block-spec =

@@ -1,11 +1,12 @@
--- `disjunction::disjunct` meets its contract: those that are answered are true, or the body is answered and joined.
+-- `disjunct::disjunct` meets its contract: those that are answered are true, or the body is answered and joined.
 -- Assumes nothing.
 use mathlib.Core.Path.{sym, _∙_}
 use borrow.Author.Needs.{needs}
 use Rattle.steps.proofs.DisjunctLaws.{disjunct-settled, disjunct-ready, disjunct-sides, disjunct-joins}
-use Rattle.steps.proofs.DisjunctLaws.{some-disjunct-ready, disjunct-answered, same-room}
-use Rattle.steps.proofs.disjunction.disjunct.Statement.{statement}
-use Rattle.steps.proofs.disjunction.disjunct.Tie as tie
+use Rattle.steps.proofs.DisjunctLaws.{some-disjunct-ready, disjunct-answered}
+use Rattle.steps.proofs.ThereLaws.{same-room}
+use Rattle.steps.proofs.disjunct.disjunct.Statement.{statement}
+use Rattle.steps.proofs.disjunct.disjunct.Tie as tie
 
 settles-requires : tie.Need-settles-requires
 settles-requires c κs = search needs
