@@ -4,5 +4,10 @@ pub mod RebuildLaws
 pub mod SameBodies
 pub mod PlanLaws
 pub mod StepLaws
+pub mod PlacedLaws
+pub mod NormalLaws
+pub mod CommonFactorLaws
+pub mod DisjunctionLaws
 pub mod NormalNumbers
+pub mod FairLaws
 pub mod RoundLaws

@@ -15,22 +15,22 @@ use Rattle.rules.specs.Laws.{Each, InTable, WellFormed, QuantifierFree}
 use Rattle.rules.specs.Calls.{signed, words}
 use Rattle.rules.proofs.Sizes.{weight, words as words-of-node}
 use Rattle.rules.proofs.Encoding.{setting-range}
-use Rattle.rules.proofs.Choosing.{Put, here, in-left, in-right, in-not, in-bind, put, put-body, put-each}
-use Rattle.rules.proofs.Choosing.{put-some, is-chosen}
+use Rattle.rules.proofs.Choosing.{Put, here, in-left, in-right, in-not, in-bind, put, put-body, put-each, put-some}
+use Rattle.rules.proofs.Choosing.{is-chosen}
 use Rattle.tables.specs.Standing.{Stands, Few}
 use Rattle.tables.proofs.WordLaws.{number-of, words-from, words-length}
-use Rattle.tables.proofs.WalkLaws.{part}
-use Rattle.tables.proofs.Standings.{body-word, under-bind, inside-bodies}
+use Rattle.tables.proofs.WordLaws.{part}
+use Rattle.tables.proofs.Standings.{body-word, under-bind, inside-bodies, stands-there}
 use Rattle.tables.proofs.Inversion.{bind-kind}
-use Rattle.tables.proofs.Parts.{part-words}
-use Rattle.bodies.specs.Body.{BodyOf, chosen-number, chosen-place, ChosenAt}
-use Rattle.bodies.specs.declared.chosen.Found.{Found}
-use Rattle.bodies.specs.declared.chosen.Found.the-variants.{Nothing, At}
+use Rattle.tables.proofs.Parts.{moved, part-words}
+use Rattle.tables.specs.Last.{chosen-number, chosen-place, LastAt}
+use Rattle.bodies.specs.Body.{BodyOf}
 use Rattle.bodies.proofs.ChosenLaws.{chosen-none, chosen-few, chosen-stands}
 use Rattle.elimination.specs.Stepping.{HasTable, is-some, Locates, LocatedIn}
+use Rattle.tables.specs.declared.quantifiers.Found.{Found}
+use Rattle.tables.specs.declared.quantifiers.Found.the-variants.{Nothing, At}
 use Rattle.elimination.specs.declared.locate.Located.the-variants.{Nowhere, There}
 use Rattle.elimination.specs.declared.locate.Quantified.{Quantified}
-use Rattle.elimination.proofs.TableLaws.{moved, stands-there, ReadTable}
 
 -- ---- in the rule
 
@@ -76,8 +76,8 @@ pub record ChosenIn (l : List ℕ) (r : Rule) (q : Quantifier) (x : ℕ) (a : Ru
   pub number-is : i ≡ chosen-number r
   pub place-is : p ≡ count r + 1 + chosen-place r
 
-pub located : {l : List ℕ} {r : Rule} {q : Quantifier} {x : ℕ} {a : Rule} {c : Quantified}
-    → HasTable (words l) r → Locates r q x a c → ChosenIn l r q x a (c .node) (c .place)
+pub located : {l : List ℕ} {r : Rule} {c : Quantified} → HasTable (words l) r → (found : Locates r c)
+    → ChosenIn l r (found .quantifier) (c .setting) (found .body) (c .node) (c .place)
 located has found = record {
   has = has;
   at = found .at;
@@ -195,9 +195,9 @@ module _ {l : List ℕ} {r : Rule} {q : Quantifier} {x : ℕ} {a : Rule} {i p : 
 
 -- ---- what the search for it answers
 
-pub found-none : (r : Rule) {f : Found} → f ≡ Nothing → ChosenAt r f → LocatedIn r Nowhere
-unfolding ChosenAt LocatedIn
-found-none r e h = chosen-none r (subst (ChosenAt r) e h)
+pub found-none : (r : Rule) {f : Found} → f ≡ Nothing → LastAt r f → LocatedIn r Nowhere
+unfolding LastAt LocatedIn
+found-none r e h = chosen-none r (subst (LastAt r) e h)
 
 -- some quantifier is the chosen one, node i at place p
 pub record Somewhere (l : List ℕ) (r : Rule) (i p : ℕ) : Type 0 where
@@ -206,21 +206,21 @@ pub record Somewhere (l : List ℕ) (r : Rule) (i p : ℕ) : Type 0 where
   pub body : Rule
   pub there : ChosenIn l r quantifier setting body i p
 
-pub found-there : {l : List ℕ} {n i o : ℕ} {r : Rule} {f : Found} → ReadTable l n r → f ≡ At i o → ChosenAt r f
-    → Somewhere l r i (n + 1 + o)
-unfolding ChosenAt
-found-there {r = r} t e h =
-    let (some, number, place) = subst (ChosenAt r) e h in
+pub found-there : {l : List ℕ} {i p : ℕ} {r : Rule} {f : Found} → HasTable (words l) r → f ≡ At i p → LastAt r f
+    → Somewhere l r i p
+unfolding LastAt
+found-there {r = r} has e h =
+    let (some, number, place) = subst (LastAt r) e h in
     let (q, x, a, at) = is-chosen r some in
     record {
       quantifier = q;
       setting = x;
       body = a;
       there = record {
-        has = t .has;
+        has = has;
         at = at;
         number-is = number;
-        place-is = omega (arith, t .counted, place);
+        place-is = place;
       };
     }
 
@@ -229,16 +229,14 @@ pub locates : {l : List ℕ} {r : Rule} {i p : ℕ} (kind s end : ℕ) (w : Some
     → getD (words l) p (pos 0) ≡ signed kind → getD (words l) (p + 1) (pos 0) ≡ signed s → end ≡ weight (w .body)
     → LocatedIn r (There (record { node = i; place = p; some = eqb kind 8; setting = s; end = end }))
 unfolding LocatedIn
-locates kind s end w first second e = (
-  w .quantifier,
-  w .setting,
-  w .body,
-  record {
-    at = w .there .at;
-    number-is = w .there .number-is;
-    place-is = w .there .place-is;
-    quantifier-is = kind-read (w .there) kind first;
-    setting-is = setting-read (w .there) s second;
-    end-is = e;
-  },
-)
+locates kind s end w first second e =
+    let known : w .setting ≡ s = sym (setting-read (w .there) s second) in
+    record {
+      quantifier = w .quantifier;
+      body = w .body;
+      at = w .there .at ∙ ap (λ (x : ℕ). the (w .quantifier) x (w .body)) known;
+      number-is = w .there .number-is;
+      place-is = w .there .place-is;
+      quantifier-is = kind-read (w .there) kind first;
+      end-is = e;
+    }

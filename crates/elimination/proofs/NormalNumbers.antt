@@ -9,7 +9,7 @@ use borrow.Author.Tests.{eq-eqb, le-ltb}
 use lib.Dec.{T, le→leb}
 use lib.IntN.{ℤ, pos, negsuc, natAbs, _+ℤ_}
 use Rattle.whole.specs.Integers.{within}
-use Rattle.whole.proofs.Tests.{T-and}
+use Rattle.whole.proofs.Tests.{T-and, is-false, not-passed}
 use Rattle.rules.specs.Sum.{Sum, factor, number, negate, add, one-plus, one-minus, limit, all-within}
 use Rattle.rules.specs.Rule.{Test, positive, divisible, is-zero, Rule, Constant, Join, Not, Literal, Bind}
 use Rattle.rules.specs.Literals.{some-literal}
@@ -18,23 +18,18 @@ use Rattle.rules.specs.Eliminate.{over-limit}
 use Rattle.rules.specs.Laws.{Each, InTable, WellFormed}
 use Rattle.rules.proofs.Encoding.{divisor-range}
 use Rattle.rules.proofs.Sums.{factor-scale, factor-add, number-factor}
-use Rattle.rules.proofs.StepShapes.{within-table}
+use Rattle.rules.proofs.Limits.{within-table}
 use Rattle.literals.proofs.Sizes.{size-mul, size-add}
-use Rattle.literals.proofs.Terms.{within-at}
+use Rattle.literals.proofs.Sevens.{within-at}
 use Rattle.walks.specs.Sums.{turned}
 use Rattle.walks.proofs.SumLaws.{turned-within}
 use Rattle.steps.specs.Numbers.{at-limit}
-use Rattle.elimination.proofs.StepLaws.{no}
 
 -- ---- tests
 
 neither : (p q : Bool) → (p || q) ≡ false → (p ≡ false) × (q ≡ false)
 neither true q e = absurd (subst T e tt)
 neither false q e = (refl, e)
-
-passes-not : (b : Bool) → T b → not b ≡ false
-passes-not true h = refl
-passes-not false h = absurd h
 
 -- ---- sums
 
@@ -100,13 +95,13 @@ module _ (t : Test) (s : Sum) (w : InTable t s) where
 
 positive-within : (s : Sum) → T (all-within limit s) → over-limit positive s ≡ false
 unfolding over-limit
-positive-within s h = ap (λ (b : Bool). b || false) (passes-not (all-within limit s) h)
+positive-within s h = ap (λ (b : Bool). b || false) (not-passed (all-within limit s) h)
 
 divisible-within : (b : Bool) (k x : ℕ) (s : Sum) → InTable (divisible b k) s
     → over-limit (divisible b k) (x-not-negative x s) ≡ false
 unfolding over-limit
 divisible-within b k x s w =
-    ap₂ _||_ (passes-not (all-within limit (x-not-negative x s)) (not-negative-within (divisible b k) s w x))
+    ap₂ _||_ (not-passed (all-within limit (x-not-negative x s)) (not-negative-within (divisible b k) s w x))
     (le-ltb limit k (divisor-range k (w .2) .1))
 
 literal-within : (plainly : Bool) (x : ℕ) (t : Test) (s : Sum) → InTable t s → at-limit t s ≡ false
@@ -133,4 +128,4 @@ normal-far plainly x (Join j a b) w far =
     ap₂ _||_ (normal-far plainly x a (w .0) left) (normal-far plainly x b (w .1) right)
 normal-far plainly x (Not a) w far = normal-far (not plainly) x a w far
 normal-far plainly x (Literal t s) w far = literal-within plainly x t s w far
-normal-far plainly x (Bind q v a) w far = no (some-literal over-limit a) (within-table a (w .1))
+normal-far plainly x (Bind q v a) w far = is-false (some-literal over-limit a) (within-table a (w .1))

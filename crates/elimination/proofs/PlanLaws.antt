@@ -1,5 +1,5 @@
--- What step 3 plans from its survey: what folds to the same may take the disjunction's place, and a folded rule grows by
--- what is put into it.
+-- What step 3 plans from its survey: what folds to the same may take the disjunction's place, and a folded rule
+-- grows by what is put into it.
 -- Assumes nothing.
 use mathlib.Core.Path.{_≡_, refl, sym, _∙_, ap, subst}
 use mathlib.Core.Logic.{inl, inr}

@@ -25,11 +25,12 @@ use Rattle.rules.proofs.Folding.{keep-fold}
 use Rattle.rules.proofs.Weights.{fold-lighter}
 use Rattle.rules.proofs.Choosing.{put}
 use Rattle.rules.proofs.Shapes.{each-by-parts}
-use Rattle.rules.proofs.StepShapes.{within-table, replaced-formed}
+use Rattle.rules.proofs.Limits.{within-table, replaced-formed}
 use Rattle.tables.specs.Standing.{TableAt}
 use Rattle.tables.proofs.WordLaws.{words-from}
-use Rattle.tables.proofs.WalkLaws.{part}
+use Rattle.tables.proofs.WordLaws.{part}
 use Rattle.tables.proofs.Passed.{TableOf, table-words, table-formed, table-most}
+use Rattle.tables.specs.Last.{chosen-place}
 use Rattle.builder.specs.Built.{Built, Countable}
 use Rattle.builder.specs.declared.push.State.{State}
 use Rattle.builder.proofs.BuiltLaws.{built-none, built-countable}
@@ -37,11 +38,10 @@ use Rattle.finishing.specs.Finishing.{Finishable}
 use Rattle.folding.specs.Answers.{Gives, Answered}
 use Rattle.folding.specs.declared.answers.Folded.{Folded}
 use Rattle.folding.specs.declared.answers.Folded.the-variants.{Known, Pushed}
-use Rattle.bodies.specs.Body.{chosen-place}
-use Rattle.literals.specs.Changes.{becomes, Usable, Fair}
+use Rattle.literals.specs.Changes.{Usable, Fair}
 use Rattle.walks.specs.Walk.{changed, Ready}
 use Rattle.steps.specs.Making.{new-of, Makeable, Around}
-use Rattle.steps.proofs.AroundLaws.{unchanged}
+use Rattle.steps.proofs.ThereLaws.{unchanged}
 use Rattle.steps.proofs.ReplaceLaws.{put-lighter}
 use Rattle.elimination.specs.Stepping.{HasTable, InPlace, none-built, Folding, Closing, sized, Stepped}
 use Rattle.elimination.specs.Stepping.{Rebuilding, FirstReady}
@@ -128,9 +128,7 @@ pub around-asks : {l : List ℕ} {n : ℕ} {ws : List ℤ} {room c : ℕ} {step 
     → Around (part l 1) (part l (n + 1)) 0 (n + 1) c step places nothing ws b r q x a []
 unfolding total
 around-asks {l} {n} {step = step} {places = places} {r = r} {x = x} {a = a} t k zeros none = record {
-  stands = rule-stands t;
-  few = rule-few t;
-  formed = k .ready .has .formed;
+  there = record { stands = rule-stands t; few = rule-few t; formed = k .ready .has .formed };
   at = k .at;
   number-is = omega (arith, k .number-is);
   makeable = subst (λ (bs : List ℤ). Makeable step bs places x a) body-is (k .makeable);
@@ -157,15 +155,15 @@ pub fold-asks : (l : List ℕ) {n : ℕ} {ws : List ℤ} {nothing : Sum} {b : St
     → Ready (part l 1) (part l (n + 1)) 0 (n + 1) Same nothing ws b r []
 unfolding total Fair all-within
 fold-asks l {nothing = nothing} {r = r} k zeros none = record {
-  stands = rule-stands (folding-table k);
-  few = rule-few (folding-table k);
-  formed = k .has .formed;
+  at = record {
+    stands = rule-stands (folding-table k);
+    few = rule-few (folding-table k);
+    formed = k .has .formed;
+  };
   usable = subst (Usable Same) (sym zeros) (record { seven = refl; small = tt; fair = tt });
   numbers = subst (λ (a : Rule). T (not (some-literal over-limit a))) (sym (unchanged nothing r))
       (within-table r (k .has .formed));
-  built = none _;
-  small = omega (arith, words-there (k .has), k .has .few);
-  room = k .most;
+  building = record { built = none _; small = omega (arith, words-there (k .has), k .has .few); room = k .most };
 }
 
 -- what the walk answers, with nothing changed

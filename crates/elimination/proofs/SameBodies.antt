@@ -5,7 +5,7 @@ use mathlib.Core.List.{List, [], _∷_, _++_, append-assoc, append-nil}
 use Prim.Native.Nat.{ℕ, suc, _+_}
 use native.Mathlib.Omega.{arith}
 use lib.IntN.{ℤ, pos, natAbs}
-use lib.ListN.{length, getD, drop, List·getD-append}
+use lib.ListN.{length, getD, drop}
 use lib.Seq.{drop-at}
 use Rattle.rules.specs.Rule.{Rule}
 use Rattle.rules.specs.Table.{Node, body, count, nodes, bodies}
@@ -13,19 +13,15 @@ use Rattle.rules.specs.Laws.{WellFormed}
 use Rattle.rules.proofs.Sizes.{words, total, length-nodes, length-body, words-pos, weight-is}
 use Rattle.rules.proofs.Encoding.{Good, AllGood, good-nodes}
 use Rattle.tables.specs.Reads.{widths, kind-of}
-use Rattle.tables.proofs.TreeSteps.{kinds}
+use Rattle.tables.proofs.KindLaws.{first-word, kind-words}
 use Rattle.bodies.specs.Body.{BodyOf}
 
 -- the first word of a node's body is its kind, which says how wide it is
-first-kind : (d : Node) (n : ℕ) (after : List ℤ) → Good d → getD (body n d ++ after) 0 (pos 0) ≡ pos (kind-of d)
-first-kind d n after g =
-    List·getD-append (body n d) after (pos 0) 0 (omega (arith, length-body n d, words-pos d)) ∙ kinds d g .first n
-
 same-width : (d e : Node) (n m : ℕ) (x y : List ℤ) → Good d → Good e → body n d ++ x ≡ body m e ++ y → words d ≡ words e
 same-width d e n m x y g h same =
     let kind : pos (kind-of d) ≡ pos (kind-of e) =
-    sym (first-kind d n x g) ∙ ap (λ (l : List ℤ). getD l 0 (pos 0)) same ∙ first-kind e m y h in
-    sym (kinds d g .wide) ∙ ap (λ (z : ℤ). getD widths (natAbs z) 0) kind ∙ kinds e h .wide
+    sym (first-word n d x) ∙ ap (λ (l : List ℤ). getD l 0 (pos 0)) same ∙ first-word m e y in
+    sym (kind-words d g) ∙ ap (λ (z : ℤ). getD widths (natAbs z) 0) kind ∙ kind-words e h
 
 as-many : (ds es : List Node) (n m : ℕ) (x y : List ℤ) → AllGood ds → AllGood es
     → bodies n ds ++ x ≡ bodies m es ++ y → total ds ≡ total es → length ds ≡ length es

@@ -14,6 +14,7 @@ use Rattle.rules.specs.Table.{most-words, count, size}
 use Rattle.rules.specs.Fold.{fold}
 use Rattle.rules.specs.Chosen.{the, nothing, chosen}
 use Rattle.rules.specs.Steps.{disjunction}
+use Rattle.rules.specs.Eliminate.{normal-step, common-step, disjunction-step}
 use Rattle.rules.specs.Laws.{Each, WellFormed}
 use Rattle.rules.proofs.Sizes.{weight}
 use Rattle.rules.proofs.Folding.{Open, Folded}
@@ -23,7 +24,7 @@ use Rattle.builder.specs.Built.{most-counted}
 use Rattle.builder.specs.declared.push.State.{State}
 use Rattle.folding.specs.Answers.{Gives}
 use Rattle.folding.specs.declared.answers.Folded as answer
-use Rattle.bodies.specs.Body.{chosen-number, chosen-place}
+use Rattle.tables.specs.Last.{chosen-number, chosen-place}
 use Rattle.steps.specs.Making.{new-of, Makeable}
 use Rattle.elimination.specs.declared.locate.Located.{Located}
 use Rattle.elimination.specs.declared.locate.Located.the-variants.{Nowhere, There}
@@ -51,17 +52,18 @@ is-some for-some = true
 is-some for-all = false
 
 -- its number, its place, its setting, and how many words its body has
-pub record Locates (r : Rule) (q : Quantifier) (x : ℕ) (a : Rule) (c : Quantified) : Type 0 where
-  pub at : chosen r ≡ the q x a
+pub record Locates (r : Rule) (c : Quantified) : Type 0 where
+  pub quantifier : Quantifier
+  pub body : Rule
+  pub at : chosen r ≡ the quantifier (c .setting) body
   pub number-is : c .node ≡ chosen-number r
   pub place-is : c .place ≡ count r + 1 + chosen-place r
-  pub quantifier-is : c .some ≡ is-some q
-  pub setting-is : c .setting ≡ x
-  pub end-is : c .end ≡ weight a
+  pub quantifier-is : c .some ≡ is-some quantifier
+  pub end-is : c .end ≡ weight body
 
 unfoldable pub LocatedIn : Rule → Located → Type 0
 LocatedIn r Nowhere = chosen r ≡ nothing
-LocatedIn r (There c) = (q : Quantifier) × (x : ℕ) × (a : Rule) × Locates r q x a c
+LocatedIn r (There c) = Locates r c
 
 -- ---- a step
 
@@ -78,19 +80,20 @@ pub record SomeStepReady (ts ws : List ℤ) (room : ℕ) : Type 0 where
   pub ready : StepReady ts ws room rule
 
 -- and c says where its chosen quantifier is
-pub record SomeStepLocated (ts ws : List ℤ) (c : Quantified) : Type 0 where
-  pub room : ℕ
+pub record SomeStepLocated (ts ws : List ℤ) (room : ℕ) (c : Quantified) : Type 0 where
   pub rule : Rule
-  pub quantifier : Quantifier
-  pub setting : ℕ
-  pub body : Rule
   pub ready : StepReady ts ws room rule
-  pub locates : Locates rule quantifier setting body c
+  pub locates : Locates rule c
 
 -- the step's answer number, and its table where it has one
 unfoldable pub Stepped : Result Rule → ℕ → List ℤ → Type 0
 Stepped (refused k) n ts = n ≡ k
 Stepped (given f) n ts = (n ≡ 0) × TableAt ts f
+
+-- "Then:" the numbered steps 1 to 3
+unfoldable pub numbered : ℕ → Rule → Result Rule
+unfolding normal-step common-step disjunction-step _>>=_
+numbered room r = normal-step room r >>= common-step room >>= disjunction-step room
 
 -- "size after folding (6)"
 unfoldable pub sized : ℕ → Rule → Result Rule

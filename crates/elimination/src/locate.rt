@@ -1,7 +1,7 @@
 // Where the chosen quantifier of a step table stands.
-use bodies::chosen;
-use bodies::chosen::Found;
 use bodies::span;
+use tables::quantifiers;
+use tables::quantifiers::Found;
 use tables::words;
 ghost use Rattle.rules.specs.Rule.{Rule};
 ghost use Rattle.rules.specs.Calls.{words as words-of};
@@ -26,14 +26,10 @@ pub fn locate(table: &[u8]) -> Located
     requires { ⌜ SomeTable (words-of (now table)) ⌝ }
     ensures { λ l. ⌜ ((r : Rule) → HasTable (words-of (now (table .entry))) r → LocatedIn r l) ⌝ }
 {
-    let n = words::natural(table, 0);
-    let from = (n + 1) * 4;
-    let whole = span::span(&table[4..], &table[from..], 0, n + 1);
-    let found = chosen::chosen(&table[from..], whole.words);
-    let Found::At(node, at) = found else {
+    let found = quantifiers::last(table, words::natural(table, 0));
+    let Found::At(node, place) = found else {
         return Located::Nowhere;
     };
-    let place = n + 1 + at;
     let entry = (node + 2) * 4;
     let start = (place + 2) * 4;
     let body = span::span(&table[entry..], &table[start..], node + 1, place + 2);

@@ -1,7 +1,5 @@
-// The steps: for-all, normal form, common factor, disjunction. Each answers its refusal, or 0 with its table in the last
-// one's place.
-use crate::locate;
-use crate::locate::Located;
+// The steps on the chosen quantifier, which was located: for-all, normal form, common factor, disjunction. Each answers
+// its refusal, or 0 with its table in the last one's place.
 use crate::locate::Quantified;
 use crate::rebuild;
 use bodies::bounds;
@@ -16,15 +14,16 @@ use walks::normal;
 use walks::normal::Normal;
 use whole::Multiple;
 ghost use mathlib.Core.Path.{_≡_};
-ghost use mathlib.Core.Bool.{true};
+ghost use mathlib.Core.Bool.{true, false, _&&_};
 ghost use Prim.Native.Nat.{ℕ};
-ghost use Rattle.rules.specs.Rule.{Quantifier, Rule};
+ghost use lib.Dec.{eqb};
+ghost use Rattle.rules.specs.Rule.{Rule};
 ghost use Rattle.rules.specs.Literals.{some-literal};
 ghost use Rattle.rules.specs.Steps.{normal as normal-of, disjuncts};
 ghost use Rattle.rules.specs.Eliminate.{over-limit, for-all-step, normal-step, common-step, disjunction-step};
 ghost use Rattle.rules.specs.Calls.{words as words-of};
 ghost use Rattle.steps.specs.Surveying.{Surveyed};
-ghost use Rattle.elimination.specs.Stepping.{Locates, StepReady, SomeStepReady, SomeStepLocated, Stepped};
+ghost use Rattle.elimination.specs.Stepping.{Locates, StepReady, SomeStepLocated, Stepped};
 ghost use Rattle.elimination.specs.Stepping.{Planned};
 
 // "a literal number passes ±2,147,483,647, or a divisor passes 2,147,483,647"
@@ -37,18 +36,11 @@ const ROOM: u32 = 6;
 const FACTOR: u32 = 7;
 
 // "A for-all is first replaced by not, for some, not: a step table of its own."
-pub fn for_all(table: &mut [u8], work: &mut [u8], room: usize) -> u32
-    requires { ⌜ SomeStepReady (words-of (now table)) (words-of (now work)) room ⌝ }
+pub fn for_all(table: &mut [u8], work: &mut [u8], room: usize, c: Quantified) -> u32
+    requires { ⌜ SomeStepLocated (words-of (now table)) (words-of (now work)) room c × (c .some ≡ false) ⌝ }
     ensures { λ n. ⌜ ((r : Rule) → StepReady (words-of (now (table .entry))) (words-of (now (work .entry))) room r
-        → Stepped (for-all-step room r) n (words-of (now (table .exit)))) ⌝ }
+        → Locates r c → Stepped (for-all-step room r) n (words-of (now (table .exit)))) ⌝ }
 {
-    let located = locate::locate(table);
-    let Located::There(c) = located else {
-        return 0;
-    };
-    if c.some {
-        return 0;
-    }
     let none = [0u32];
     rebuild::rebuilt(table, work, room, c.node, Step::ForAll, &none)
 }
@@ -56,10 +48,10 @@ pub fn for_all(table: &mut [u8], work: &mut [u8], room: usize) -> u32
 // Whether a number passes the limit in the normal form of the body. Where no c is at the limit, none does; else it is
 // built, only to see its numbers.
 fn normal_over(table: &[u8], work: &mut [u8], c: Quantified) -> bool
-    requires { ⌜ SomeStepLocated (words-of (now table)) (words-of (now work)) c ⌝ }
-    ensures { λ o. ⌜ ((room : ℕ) (r : Rule) (q : Quantifier) (x : ℕ) (a : Rule)
-        → StepReady (words-of (now (table .entry))) (words-of (now (work .entry))) room r → Locates r q x a c
-        → o ≡ some-literal over-limit (normal-of true (c .setting) a)) ⌝ }
+    requires { ⌜ ((room : ℕ) × SomeStepLocated (words-of (now table)) (words-of (now work)) room c) ⌝ }
+    ensures { λ o. ⌜ ((room : ℕ) (r : Rule)
+        → StepReady (words-of (now (table .entry))) (words-of (now (work .entry))) room r → (at : Locates r c)
+        → o ≡ some-literal over-limit (normal-of true (c .setting) (at .body))) ⌝ }
 {
     let start = (c.place + 2) * 4;
     if !numbers::some_at_limit(&table[start..], c.end) {
@@ -82,15 +74,11 @@ fn normal_over(table: &[u8], work: &mut [u8], c: Quantified) -> bool
 }
 
 // 1. Normal form.
-pub fn normal_form(table: &mut [u8], work: &mut [u8], room: usize) -> u32
-    requires { ⌜ SomeStepReady (words-of (now table)) (words-of (now work)) room ⌝ }
+pub fn normal_form(table: &mut [u8], work: &mut [u8], room: usize, c: Quantified) -> u32
+    requires { ⌜ SomeStepLocated (words-of (now table)) (words-of (now work)) room c ⌝ }
     ensures { λ n. ⌜ ((r : Rule) → StepReady (words-of (now (table .entry))) (words-of (now (work .entry))) room r
-        → Stepped (normal-step room r) n (words-of (now (table .exit)))) ⌝ }
+        → Locates r c → Stepped (normal-step room r) n (words-of (now (table .exit)))) ⌝ }
 {
-    let located = locate::locate(table);
-    let Located::There(c) = located else {
-        return 0;
-    };
     if normal_over(table, work, c) {
         return NUMBER;
     }
@@ -98,21 +86,31 @@ pub fn normal_form(table: &mut [u8], work: &mut [u8], room: usize) -> u32
     rebuild::rebuilt(table, work, room, c.node, Step::NormalForm, &none)
 }
 
-// 2. Common factor. "D over 4,096 is refused (7) after step 1".
-pub fn common_factor(table: &mut [u8], work: &mut [u8], room: usize) -> u32
-    requires { ⌜ SomeStepReady (words-of (now table)) (words-of (now work)) room ⌝ }
-    ensures { λ n. ⌜ ((r : Rule) → StepReady (words-of (now (table .entry))) (words-of (now (work .entry))) room r
-        → Stepped (common-step room r) n (words-of (now (table .exit)))) ⌝ }
+// Whether D is 1, under a for some.
+fn taken_once(d: u32, some: bool) -> bool
+    ensures { λ r. ⌜ r ≡ (some && eqb d 1) ⌝ }
 {
-    let located = locate::locate(table);
-    let Located::There(c) = located else {
-        return 0;
-    };
+    if some {
+        return d == 1;
+    }
+    false
+}
+
+// 2. Common factor. "D over 4,096 is refused (7) after step 1". Where D is 1 the table stays: each literal is taken
+// once, and 1 divides x is true.
+pub fn common_factor(table: &mut [u8], work: &mut [u8], room: usize, c: Quantified) -> u32
+    requires { ⌜ SomeStepLocated (words-of (now table)) (words-of (now work)) room c ⌝ }
+    ensures { λ n. ⌜ ((r : Rule) → StepReady (words-of (now (table .entry))) (words-of (now (work .entry))) room r
+        → Locates r c → Stepped (common-step room r) n (words-of (now (table .exit)))) ⌝ }
+{
     let start = (c.place + 2) * 4;
     let least = multiples::common_factor(&table[start..], c.end, c.setting);
     let Multiple::Least(m) = least else {
         return FACTOR;
     };
+    if taken_once(m, c.some) {
+        return 0;
+    }
     let d = m as usize;
     let nothing = [0i64, 0, 0, 0, 0, 0, 0];
     if numbers::over(
@@ -151,15 +149,11 @@ fn planned(seen: Survey, room: usize, period: usize, k: usize) -> Plan
 }
 
 // 3. Disjunction. "P over 4,096 (7) after step 2." A table has at most 1,365 bounds.
-pub fn disjunction(table: &mut [u8], work: &mut [u8], room: usize) -> u32
-    requires { ⌜ SomeStepReady (words-of (now table)) (words-of (now work)) room ⌝ }
+pub fn disjunction(table: &mut [u8], work: &mut [u8], room: usize, c: Quantified) -> u32
+    requires { ⌜ SomeStepLocated (words-of (now table)) (words-of (now work)) room c ⌝ }
     ensures { λ n. ⌜ ((r : Rule) → StepReady (words-of (now (table .entry))) (words-of (now (work .entry))) room r
-        → Stepped (disjunction-step room r) n (words-of (now (table .exit)))) ⌝ }
+        → Locates r c → Stepped (disjunction-step room r) n (words-of (now (table .exit)))) ⌝ }
 {
-    let located = locate::locate(table);
-    let Located::There(c) = located else {
-        return 0;
-    };
     let start = (c.place + 2) * 4;
     let least = multiples::period(&table[start..], c.end);
     let Multiple::Least(m) = least else {

@@ -6,9 +6,9 @@ use lib.Dec.{leb}
 use Rattle.rules.specs.Rule.{Rule}
 use Rattle.rules.specs.Table.{nodes, size}
 use Rattle.rules.specs.Calls.{words}
+use Rattle.tables.proofs.WordLaws.{same-words}
 use Rattle.builder.specs.Built.{Built}
 use Rattle.finishing.specs.Finishing.{Finishable}
-use Rattle.finishing.proofs.CopyLaws.{same-words}
 use Rattle.elimination.specs.Stepping.{Closing}
 use Rattle.elimination.proofs.RebuildLaws.{stood-asks, stood-built, fits-asks, finish-asks, stepped, too-large}
 use Rattle.elimination.proofs.rebuild.closed.Statement.{statement}

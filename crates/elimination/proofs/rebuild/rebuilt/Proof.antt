@@ -7,7 +7,7 @@ use Rattle.rules.specs.Rule.{Quantifier, Rule}
 use Rattle.rules.specs.Fold.{fold}
 use Rattle.rules.specs.Chosen.{replace}
 use Rattle.rules.specs.Calls.{words}
-use Rattle.finishing.proofs.CopyLaws.{same-words}
+use Rattle.tables.proofs.WordLaws.{same-words}
 use Rattle.steps.specs.Making.{new-of}
 use Rattle.elimination.specs.Stepping.{Rebuilding, Closing}
 use Rattle.elimination.proofs.TableLaws.{word-there, ReadTable, read-table, starts-inside}

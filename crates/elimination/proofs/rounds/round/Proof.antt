@@ -1,75 +1,55 @@
--- `rounds::round` meets its contract: each step has the table that the last one gave, and a refusal ends the round.
+-- `rounds::round` meets its contract: a for-all is first made a for-some, then come the numbered steps.
 -- Assumes nothing.
 use borrow.Author.Needs.{needs}
 use Rattle.rules.specs.Rule.{Rule}
-use Rattle.rules.specs.Eliminate.{for-all-step, normal-step, common-step, disjunction-step}
+use Rattle.rules.specs.Eliminate.{for-all-step}
 use Rattle.rules.specs.Calls.{words}
-use Rattle.finishing.proofs.CopyLaws.{same-words}
-use Rattle.elimination.specs.Stepping.{StepReady}
-use Rattle.elimination.proofs.RoundLaws.{for-all-fair, normal-fair, common-fair, Come, come-first, come-ready}
-use Rattle.elimination.proofs.RoundLaws.{come-next, answered-next, to-for-all, to-normal, to-common, round-answered}
-use Rattle.elimination.proofs.RoundLaws.{ended-common, ended-normal, ended-for-all}
+use Rattle.tables.proofs.WordLaws.{same-words}
+use Rattle.elimination.specs.Stepping.{StepReady, Locates, numbered}
+use Rattle.elimination.proofs.StepLaws.{nowhere}
+use Rattle.elimination.proofs.FairLaws.{for-all-fair}
+use Rattle.elimination.proofs.RoundLaws.{Come, come-first, come-located, come-table, come-stays, come-over}
+use Rattle.elimination.proofs.RoundLaws.{come-next, answered-next, there, to-for-all, numbered-none}
+use Rattle.elimination.proofs.RoundLaws.{round-answered, some-answered, ended-for-all}
 use Rattle.elimination.proofs.rounds.round.Statement.{statement}
 use Rattle.elimination.proofs.rounds.round.Tie as tie
 
--- the ways back from a test to its call, and from there to the test before
-abbrev first : tie.Else1 → tie.After-for-all
+-- the ways back: from the test to its step and to the start, from where the quantifier is located anew to the test
+abbrev first : tie.Else2 → tie.After-for-all
 first c = c .before .before .before .before .before
 
-abbrev second : tie.Else2 → tie.After-normal-form
-second c = c .before .before .before .before .before
+abbrev start : tie.Else2 → tie.Start
+start c = first c .before .before .before .before .before .before
 
-abbrev third : tie.Else3 → tie.After-common-factor
-third c = c .before .before .before .before .before
+abbrev given-first : tie.After-known-told → tie.Else2
+given-first c = c .before .before .before .before .before
 
-abbrev start : tie.After-for-all → tie.Start
-start c = c .before .before .before .before .before
-
-abbrev given-first : tie.After-normal-form → tie.Else1
-given-first c = c .before .before .before
-
-abbrev given-second : tie.After-common-factor → tie.Else2
-given-second c = c .before .before .before
-
-abbrev given-third : tie.After-disjunction → tie.Else3
-given-third c = c .before .before .before
-
-Ready : tie.Start → Rule → Type 0
+-- a rule that is asked for, and its chosen quantifier
+abbrev Ready : tie.Start → Rule → Type 0
 Ready c r = StepReady (words (c .args .table .now)) (words (c .args .work .now)) (c .args .room) r
 
--- where the round has come to after each step
-after-first : (c : tie.Else1) (r : Rule) → Ready (start (first c)) r
-    → Come (words (first c .for-all .last .0)) (words (first c .for-all .last .1 .0)) (start (first c) .args .room)
-    (to-for-all (start (first c) .args .room) r)
-unfolding Ready
-after-first c r ready =
-    let call = first c .for-all in
-    come-next (come-first r ready) (for-all-step _) _ _ (call .ensures) (for-all-fair _) (c .if1 .left) _
-    (same-words _ _ (call .kept .0)) (same-words _ _ (call .kept .1 .0))
+abbrev At : tie.Start → Rule → Type 0
+At c r = Locates r (c .args .c)
 
-after-second : (c : tie.Else2) (r : Rule)
-    → let at = given-first (second c) in
-    let room = start (first at) .args .room in
-    Ready (start (first at)) r
-    → Come (words (second c .normal-form .last .0)) (words (second c .normal-form .last .1 .0)) room (to-normal room r)
-after-second c r ready =
-    let call = second c .normal-form in
-    come-next (after-first (given-first (second c)) r ready) (normal-step _) _ _ (call .ensures) (normal-fair _)
+-- where the line has come to after the for-all's own step, and where its quantifier is then
+after-first : (c : tie.Else2) (r : Rule) → Ready (start c) r → At (start c) r
+    → Come (words (first c .for-all .last .0)) (words (first c .for-all .last .1 .0)) (start c .args .room)
+    (to-for-all (start c .args .room) r)
+after-first c r ready at =
+    let call = first c .for-all in
+    come-next (come-first r ready) (for-all-step _) _ _ (call .ensures r ready at) (for-all-fair _)
     (c .if2 .left) _ (same-words _ _ (call .kept .0)) (same-words _ _ (call .kept .1 .0))
 
-after-third : (c : tie.Else3) (r : Rule)
-    → let at = given-second (third c) in
-    let room = start (first (given-first (second at))) .args .room in
-    Ready (start (first (given-first (second at)))) r
-    → Come (words (third c .common-factor .last .0)) (words (third c .common-factor .last .1 .0)) room
-    (to-common room r)
-after-third c r ready =
-    let call = third c .common-factor in
-    come-next (after-second (given-second (third c)) r ready) (common-step _) _ _ (call .ensures) (common-fair _)
-    (c .if3 .left) _ (same-words _ _ (call .kept .0)) (same-words _ _ (call .kept .1 .0))
+some-there : (c : tie.After-known-told) (r : Rule) (ready : Ready (start (given-first c)) r)
+    (at : At (start (given-first c)) r)
+    → Locates (after-first (given-first c) r ready at .rule) (c .before .located .given .0 .0)
+some-there c r ready at =
+    let come = after-first (given-first c) r ready at in
+    there (come .rule) (c .before .located .given .1)
+    (c .before .before .before .locate .ensures (come .rule) (come .ready .has))
 
-for-all-requires : tie.Need-for-all-requires
-for-all-requires c κs = search needs
+numbered-requires : tie.Need-numbered-requires
+numbered-requires c κs = c .before .before .before .before .before .pre
 
 same-length : tie.Need-same-length
 same-length c = search needs
@@ -78,17 +58,13 @@ same-length-2 : tie.Need-same-length-2
 same-length-2 c = search needs
 
 returns : tie.Need-returns
-returns c = λ r ready.
-    let call = c .before .before .before .before .before in
-    ended-for-all _ r _ _ (c .if1 .taken)
-    (answered-next (come-first r ready) (for-all-step _) _ _ (call .for-all .ensures))
+returns c = λ r ready at.
+    let call = c .before .before .before .before in
+    let test = call .before .before .before in
+    some-answered _ r _ _ at (test .if1 .taken) (call .numbered .ensures r ready at)
 
-normal-form-requires : tie.Need-normal-form-requires
-unfolding Ready
-normal-form-requires c κs =
-    let at = c .before .before in
-    let pre = start (first at) .pre in
-    come-ready (after-first at (pre .rule) (pre .ready))
+for-all-requires : tie.Need-for-all-requires
+for-all-requires c κs = (c .before .before .before .before .before .pre, c .before .before .if1 .left)
 
 same-length-3 : tie.Need-same-length-3
 same-length-3 c = search needs
@@ -97,18 +73,21 @@ same-length-4 : tie.Need-same-length-4
 same-length-4 c = search needs
 
 returns-2 : tie.Need-returns-2
-unfolding Ready
-returns-2 c = λ r ready.
-    let call = c .before .before .before .before .before in
-    ended-normal _ r _ _ (c .if2 .taken)
-    (answered-next (after-first (given-first call) r ready) (normal-step _) _ _ (call .normal-form .ensures))
+returns-2 c = λ r ready at.
+    let call = c .before .before .before .before .before .for-all in
+    ended-for-all _ r _ _ (c .if2 .taken)
+    (answered-next (come-first r ready) (for-all-step _) _ _ (call .ensures r ready at))
 
-common-factor-requires : tie.Need-common-factor-requires
-unfolding Ready
-common-factor-requires c κs =
-    let at = c .before .before in
-    let pre = start (first (given-first (second at))) .pre in
-    come-ready (after-second at (pre .rule) (pre .ready))
+locate-requires : tie.Need-locate-requires
+locate-requires c κs =
+    let pre = start (c .before) .pre in
+    come-table (after-first (c .before) (pre .rule) (pre .ready) (pre .locates))
+
+enum-known-located : tie.Need-enum-known-located
+enum-known-located c = search needs
+
+enum-told : tie.Need-enum-told
+enum-told c = search needs
 
 same-length-5 : tie.Need-same-length-5
 same-length-5 c = search needs
@@ -117,18 +96,19 @@ same-length-6 : tie.Need-same-length-6
 same-length-6 c = search needs
 
 returns-3 : tie.Need-returns-3
-unfolding Ready
-returns-3 c = λ r ready.
-    let call = c .before .before .before .before .before in
-    ended-common _ r _ _ (c .if3 .taken)
-    (answered-next (after-second (given-second call) r ready) (common-step _) _ _ (call .common-factor .ensures))
+returns-3 c = λ r ready at.
+    let found = c .before .before in
+    let come = after-first (found .before .before) r ready at in
+    let answer = found .locate .ensures (come .rule) (come .ready .has) in
+    let none = nowhere (come .rule) (c .enum-told .given .1) answer in
+    round-answered _ r _ _ (come-over (come-stays come (numbered _) (numbered-none _ _ none)))
 
-disjunction-requires : tie.Need-disjunction-requires
-unfolding Ready
-disjunction-requires c κs =
-    let at = c .before .before in
-    let pre = start (first (given-first (second (given-second (third at))))) .pre in
-    come-ready (after-third at (pre .rule) (pre .ready))
+numbered-requires-2 : tie.Need-numbered-requires-2
+numbered-requires-2 c κs =
+    let told = c .before .before in
+    let pre = start (given-first told) .pre in
+    come-located (after-first (given-first told) (pre .rule) (pre .ready) (pre .locates))
+    (some-there told (pre .rule) (pre .ready) (pre .locates))
 
 same-length-7 : tie.Need-same-length-7
 same-length-7 c = search needs
@@ -137,29 +117,32 @@ same-length-8 : tie.Need-same-length-8
 same-length-8 c = search needs
 
 returns-4 : tie.Need-returns-4
-unfolding Ready
-returns-4 c = λ r ready.
+returns-4 c = λ r ready at.
     let call = c .before .before .before .before in
-    round-answered _ r _ _
-    (answered-next (after-third (given-third call) r ready) (disjunction-step _) _ _ (call .disjunction .ensures))
+    let found = call .before .before .before in
+    let come = after-first (given-first found) r ready at in
+    let answer = call .numbered2 .ensures (come .rule) (come .ready) (some-there found r ready at) in
+    round-answered _ r _ _ (answered-next come (numbered _) _ _ answer)
 
 pub round-spec : {M : Type 1} → statement M
 round-spec =
     tie.close
     (tie.spec
-    for-all-requires
+    numbered-requires
     same-length
     same-length-2
     returns
-    normal-form-requires
+    for-all-requires
     same-length-3
     same-length-4
     returns-2
-    common-factor-requires
+    locate-requires
+    enum-known-located
+    enum-told
     same-length-5
     same-length-6
     returns-3
-    disjunction-requires
+    numbered-requires-2
     same-length-7
     same-length-8
     returns-4)

@@ -1,116 +1,105 @@
 -- `step::disjunction` meets its contract: P passes 4,096, or a number the limit, or the disjunction the
 -- room, or what is planned is rebuilt.
 -- Assumes nothing.
-use mathlib.Core.Path.{_≡_, refl}
+use mathlib.Core.Path.{refl}
 use mathlib.Core.List.{List}
-use Prim.Native.Nat.{ℕ, _+_, _≤_}
-use lib.ListN.{length}
-use Rattle.rules.specs.Steps.{period, bounds}
-use Rattle.rules.specs.Eliminate.{most-period}
-use Rattle.tables.proofs.WalkLaws.{part}
-use Rattle.bodies.specs.Body.{BoundsAt}
+use Prim.Native.Nat.{ℕ, _+_}
 use native.Mathlib.Omega.{arith}
 use borrow.Author.Needs.{needs}
 use Rattle.rules.specs.Rule.{Rule}
 use Rattle.rules.specs.Calls.{words}
-use Rattle.elimination.specs.Stepping.{StepReady, Planned}
-use Rattle.elimination.proofs.StepLaws.{stays, nowhere, disjunction-none, Placed, placed, rebuilding, places-near}
-use Rattle.elimination.proofs.StepLaws.{entry-within, body-within, the-body, some-body, in-range}
+use Rattle.tables.proofs.WordLaws.{part}
+use Rattle.steps.specs.declared.made.Step.the-variants.{Disjunction}
+use Rattle.elimination.specs.Stepping.{Planned}
 use Rattle.elimination.proofs.StepLaws.{multiple-over, multiple-least}
-use Rattle.elimination.proofs.StepLaws.{period-over, room-for-bounds, fair-period, some-bounds, new-disjunction}
-use Rattle.elimination.proofs.StepLaws.{disjuncts-over, body-judged, survey-asks, too-long, new-planned}
-use Rattle.elimination.proofs.StepLaws.{planned-stepped}
+use Rattle.elimination.proofs.PlacedLaws.{Placed, placed, the-place, NewRule, rebuilding, some-rebuilding}
+use Rattle.elimination.proofs.PlacedLaws.{places-near, entry-within, body-within, the-body, some-body}
+use Rattle.elimination.proofs.PlacedLaws.{in-range}
+use Rattle.elimination.proofs.DisjunctionLaws.{period-over, room-for-bounds, Collected, fair-period}
+use Rattle.elimination.proofs.DisjunctionLaws.{some-bounds, new-disjunction, disjuncts-over, body-judged}
+use Rattle.elimination.proofs.DisjunctionLaws.{survey-asks, too-long, new-planned, planned-stepped}
 use Rattle.elimination.proofs.step.disjunction.Statement.{statement}
 use Rattle.elimination.proofs.step.disjunction.Tie as tie
 
--- the way back to the start
-abbrev start : tie.After-known-told → tie.Start
-start c = c .before .before .before .before .before .before .before
+-- the ways back: to the start, from what is told of P, from the bounds, from the test of the numbers, from the survey
+abbrev start : tie.After-struct-known → tie.Start
+start c = c .before .before .before
 
--- where the chosen quantifier of a rule is
-place : (c : tie.After-known-told) (r : Rule)
-    → StepReady (words (start c .args .table .now)) (words (start c .args .work .now)) (start c .args .room) r
-    → Placed (start c .args .table .now) (words (start c .args .work .now)) (start c .args .room) r
-    (c .before .located .given .0 .0)
-place c r ready =
-    placed ready (c .before .located .given .1) (c .before .before .before .locate .ensures r (ready .has))
+abbrev found : tie.After-known-told → tie.After-period
+found c = c .before .before .before
 
--- that of the rule that is asked for
-the-place : (c : tie.After-known-told)
-    → Placed (start c .args .table .now) (words (start c .args .work .now)) (start c .args .room) (start c .pre .rule)
-    (c .before .located .given .0 .0)
-the-place c = place c (start c .pre .rule) (start c .pre .ready)
+abbrev begun : tie.After-known-told → tie.Start
+begun c = start (found c .before .before .before)
 
--- the ways back: from the call that finds P, from what it tells, from the bounds, from the test of the numbers, from the
--- survey
-abbrev located : tie.After-period → tie.After-known-told
-located c = c .before .before .before .before
-
-abbrev call : tie.After-known-told2 → tie.After-period
-call c = c .before .before .before
-
-abbrev told : tie.After-collect → tie.After-known-told2
+abbrev told : tie.After-collect → tie.After-known-told
 told c = c .before .before .before .before
 
-abbrev collected : tie.After-disjuncts-over → tie.After-collect
-collected c = c .before .before .before .before .before
+abbrev collect : tie.After-disjuncts-over → tie.After-collect
+collect c = c .before .before .before .before .before
 
 abbrev fitting : tie.After-of-disjuncts → tie.Else1
 fitting c = c .before .before .before .before .before .before .before .before
 
--- P, as it is told, is the period
-abbrev least : tie.After-known-told2 → ℕ
-least c = c .before .least .given .0 .0
+-- a rule's chosen quantifier, where it was located
+abbrev At : tie.Start → Rule → Type 0
+At s r = Placed (s .args .table .now) (words (s .args .work .now)) (s .args .room) r (s .args .c)
 
-period-is : (c : tie.After-known-told2) (r : Rule)
-    (ready : let s = start (located (call c)) in
-    StepReady (words (s .args .table .now)) (words (s .args .work .now)) (s .args .room) r)
-    → let at = located (call c) in
-    (least c ≡ period (place at r ready .body)) × (least c ≤ most-period)
-period-is c r ready =
-    multiple-least (c .before .least .given .1)
-    (call c .period .ensures _ _ (the-body (place (located (call c)) r ready)))
+-- P and the bounds, as they are told
+abbrev least : tie.After-collect → ℕ
+least c = told c .before .least .given .0 .0
 
--- the bounds are in their places
 abbrev places : tie.After-collect → List ℕ
 places c = c .collect .last .1 .1 .1 .0
 
-found : (c : tie.After-collect) (r : Rule)
-    (ready : let s = start (located (call (told c))) in
-    StepReady (words (s .args .table .now)) (words (s .args .work .now)) (s .args .room) r)
-    → let at = located (call (told c)) in
-    let q = at .before .located .given .0 .0 in
-    BoundsAt (part (start at .args .table .now) (q .place + 2)) (q .setting) (places c) (c .collect .result)
-    (bounds (q .setting) (place at r ready .body))
-found c r ready = c .collect .ensures _ _ (the-body (place (located (call (told c))) r ready))
+collected : (c : tie.After-collect) {r : Rule} (p : At (begun (told c)) r)
+    → Collected p (least c) (places c) (c .collect .result)
+collected c p = record {
+  least = multiple-least (told c .before .least .given .1) (found (told c) .period .ensures _ _ (the-body p));
+  at = c .collect .ensures _ _ (the-body p);
+  long = c .collect .kept .1 .1 .1 .0;
+}
 
-long : (c : tie.After-collect) → length (places c) ≡ 1365
-long c = c .collect .kept .1 .1 .1 .0
+-- where no number passes the limit, the disjunction can be built
+new : (c : tie.Else1) {r : Rule}
+    → let k = collect (c .before) in
+    let s = begun (told k) in
+    (p : At s r)
+    → NewRule (Disjunction (least k) (k .collect .result)) (part (s .args .table .now) (s .args .c .place + 2))
+    (places k) (s .args .c .setting) (p .body)
+new c p =
+    let known = collected (collect (c .before)) p in
+    new-disjunction p known (c .if1 .left) (c .before .disjuncts-over .ensures _ _ (the-body p) (known .at))
 
 -- what is planned for the body
-abbrev bounds-of : tie.After-planned → tie.After-collect
-bounds-of c = collected (fitting (c .before) .before)
+plan-is : (c : tie.After-planned) {r : Rule}
+    → let k = collect (fitting (c .before) .before) in
+    let s = begun (told k) in
+    (p : At s r)
+    → Planned (s .args .room) (least k) (k .collect .result) (s .args .c .setting) (p .body) (c .planned .result)
+plan-is c p =
+    let known = collected (collect (fitting (c .before) .before)) p in
+    c .planned .ensures _ _ (c .before .of-disjuncts .ensures _ (body-judged p known))
 
-plan-is : (c : tie.After-planned) (r : Rule)
-    (ready : let s = start (located (call (told (bounds-of c)))) in
-    StepReady (words (s .args .table .now)) (words (s .args .work .now)) (s .args .room) r)
-    → let k = bounds-of c in
-    let at = located (call (told k)) in
-    Planned (start at .args .room) (least (told k)) (k .collect .result) (at .before .located .given .0 .0 .setting)
-    (place at r ready .body) (c .planned .result)
-plan-is c r ready =
-    let seen = c .before in
-    let k = bounds-of c in
-    let p = place (located (call (told k))) r ready in
-    let bounds = found k r ready in
-    c .planned .ensures _ _ (seen .of-disjuncts .ensures _
-    (body-judged p _ (period-is (told k) r ready) _ _ bounds (long k)) bounds)
+add-start : tie.Need-add-start
+add-start c = omega (arith, places-near (the-place (start c .pre)) .1)
 
-locate-requires : tie.Need-locate-requires
-locate-requires c κs = let pre = c .before .before .before .pre in record { rule = pre .rule; has = pre .ready .has }
+mul-start : tie.Need-mul-start
+mul-start c = omega (arith, places-near (the-place (start c .pre)) .1)
 
-enum-known-located : tie.Need-enum-known-located
-enum-known-located c = search needs
+sub-period : tie.Need-sub-period
+sub-period c = body-within (the-place (start c .pre))
+
+part-period-start : tie.Need-part-period-start
+part-period-start c = body-within (the-place (start (c .before) .pre))
+
+part-period-end : tie.Need-part-period-end
+part-period-end c = search needs
+
+period-requires : tie.Need-period-requires
+period-requires c κs = some-body (the-place (start (c .before .before) .pre))
+
+enum-known-least : tie.Need-enum-known-least
+enum-known-least c = search needs
 
 enum-told : tie.Need-enum-told
 enum-told c = search needs
@@ -119,51 +108,18 @@ same-length : tie.Need-same-length
 same-length c = search needs
 
 returns : tie.Need-returns
-returns c = λ r ready.
-    let none = nowhere r (c .enum-told .given .1) (c .before .before .locate .ensures r (ready .has)) in
-    stays ready (disjunction-none _ r none)
-
-add-start : tie.Need-add-start
-add-start c = omega (arith, places-near (the-place (c .before)) .1)
-
-mul-start : tie.Need-mul-start
-mul-start c = omega (arith, places-near (the-place (c .before)) .1)
-
-sub-period : tie.Need-sub-period
-sub-period c = body-within (the-place (c .before))
-
-part-period-start : tie.Need-part-period-start
-part-period-start c = body-within (the-place (c .before .before))
-
-part-period-end : tie.Need-part-period-end
-part-period-end c = search needs
-
-period-requires : tie.Need-period-requires
-period-requires c κs = some-body (the-place (c .before .before .before))
-
-enum-known-least : tie.Need-enum-known-least
-enum-known-least c = search needs
-
-enum-told-2 : tie.Need-enum-told-2
-enum-told-2 c = search needs
-
-same-length-2 : tie.Need-same-length-2
-same-length-2 c = search needs
-
-returns-2 : tie.Need-returns-2
-returns-2 c = λ r ready.
-    let call = c .before .before in
-    let p = place (located call) r ready in
-    period-over p _ (multiple-over (c .enum-told2 .given .1) (call .period .ensures _ _ (the-body p)))
+returns c = λ r ready at.
+    let p = placed ready at in
+    period-over p _ (multiple-over (c .enum-told .given .1) (c .before .before .period .ensures _ _ (the-body p)))
 
 cast-period : tie.Need-cast-period
 cast-period c = search needs
 
 sub-collect : tie.Need-sub-collect
-sub-collect c = body-within (the-place (located (call c)))
+sub-collect c = body-within (the-place (begun c .pre))
 
 part-collect-start : tie.Need-part-collect-start
-part-collect-start c = body-within (the-place (located (call (c .before))))
+part-collect-start c = body-within (the-place (begun (c .before) .pre))
 
 part-collect-end : tie.Need-part-collect-end
 part-collect-end c = search needs
@@ -173,14 +129,14 @@ slice-aggregate-collect c = search needs
 
 collect-requires : tie.Need-collect-requires
 collect-requires c κs =
-    let p = the-place (located (call (c .before .before .before))) in
+    let p = the-place (begun (c .before .before .before) .pre) in
     (some-body p, in-range p .0, in-range p .1, room-for-bounds p)
 
 sub-disjuncts-over : tie.Need-sub-disjuncts-over
-sub-disjuncts-over c = body-within (the-place (located (call (told (c .before)))))
+sub-disjuncts-over c = body-within (the-place (begun (told (c .before)) .pre))
 
 part-disjuncts-over-start : tie.Need-part-disjuncts-over-start
-part-disjuncts-over-start c = body-within (the-place (located (call (told (c .before .before)))))
+part-disjuncts-over-start c = body-within (the-place (begun (told (c .before .before)) .pre))
 
 part-disjuncts-over-end : tie.Need-part-disjuncts-over-end
 part-disjuncts-over-end c = search needs
@@ -191,47 +147,41 @@ slice-aggregate-disjuncts-over c = search needs
 disjuncts-over-requires : tie.Need-disjuncts-over-requires
 disjuncts-over-requires c κs =
     let k = c .before .before .before .before in
-    let at = located (call (told k)) in
-    let pre = start at .pre in
-    let p = place at (pre .rule) (pre .ready) in
-    let least = period-is (told k) (pre .rule) (pre .ready) in
-    let bounds = found k (pre .rule) (pre .ready) in
-    let fair = fair-period p _ least _ _ bounds (long k) in
-    (some-bounds p _ least _ _ bounds (long k), in-range p .0, in-range p .1, fair .0, fair .1)
+    let p = the-place (begun (told k) .pre) in
+    let known = collected k p in
+    let fair = fair-period p known in
+    (some-bounds p known, in-range p .0, in-range p .1, fair .0, fair .1)
 
-same-length-3 : tie.Need-same-length-3
-same-length-3 c = search needs
+same-length-2 : tie.Need-same-length-2
+same-length-2 c = search needs
 
-returns-3 : tie.Need-returns-3
-returns-3 c = λ r ready.
+returns-2 : tie.Need-returns-2
+returns-2 c = λ r ready at.
     let over = c .before in
-    let k = collected over in
-    let p = place (located (call (told k))) r ready in
-    let bounds = found k r ready in
-    disjuncts-over p _ (period-is (told k) r ready) _ _ bounds (long k) _ (c .if1 .taken)
-    (over .disjuncts-over .ensures _ _ (the-body p) bounds)
+    let p = placed ready at in
+    let known = collected (collect over) p in
+    disjuncts-over p known _ (c .if1 .taken) (over .disjuncts-over .ensures _ _ (the-body p) (known .at))
 
 add-entry : tie.Need-add-entry
-add-entry c = omega (arith, places-near (the-place (located (call (told (collected (c .before .before)))))) .0)
+add-entry c = omega (arith, places-near (the-place (begun (told (collect (c .before .before))) .pre)) .0)
 
 mul-entry : tie.Need-mul-entry
-mul-entry c = omega (arith, places-near (the-place (located (call (told (collected (c .before .before)))))) .0)
+mul-entry c = omega (arith, places-near (the-place (begun (told (collect (c .before .before))) .pre)) .0)
 
 sub-of-disjuncts : tie.Need-sub-of-disjuncts
-sub-of-disjuncts c = entry-within (the-place (located (call (told (collected (c .before .before))))))
+sub-of-disjuncts c = entry-within (the-place (begun (told (collect (c .before .before))) .pre))
 
 part-of-disjuncts-start : tie.Need-part-of-disjuncts-start
-part-of-disjuncts-start c = entry-within (the-place (located (call (told (collected (c .before .before .before))))))
+part-of-disjuncts-start c = entry-within (the-place (begun (told (collect (c .before .before .before))) .pre))
 
 part-of-disjuncts-end : tie.Need-part-of-disjuncts-end
 part-of-disjuncts-end c = search needs
 
 sub-of-disjuncts-2 : tie.Need-sub-of-disjuncts-2
-sub-of-disjuncts-2 c = body-within (the-place (located (call (told (collected (c .before .before .before .before))))))
+sub-of-disjuncts-2 c = body-within (the-place (begun (told (collect (c .before .before .before .before))) .pre))
 
 part-of-disjuncts-start-2 : tie.Need-part-of-disjuncts-start-2
-part-of-disjuncts-start-2 c =
-    body-within (the-place (located (call (told (collected (c .before .before .before .before))))))
+part-of-disjuncts-start-2 c = body-within (the-place (begun (told (collect (c .before .before .before .before))) .pre))
 
 part-of-disjuncts-end-2 : tie.Need-part-of-disjuncts-end-2
 part-of-disjuncts-end-2 c = search needs
@@ -239,23 +189,21 @@ part-of-disjuncts-end-2 c = search needs
 add-of-disjuncts : tie.Need-add-of-disjuncts
 add-of-disjuncts c =
     let over = c .before .before .before .before .before .before in
-    omega (arith, places-near (the-place (located (call (told (collected over))))) .0)
+    omega (arith, places-near (the-place (begun (told (collect over)) .pre)) .0)
 
 add-of-disjuncts-2 : tie.Need-add-of-disjuncts-2
 add-of-disjuncts-2 c =
     let over = c .before .before .before .before .before .before .before in
-    omega (arith, places-near (the-place (located (call (told (collected over))))) .1)
+    omega (arith, places-near (the-place (begun (told (collect over)) .pre)) .1)
 
 slice-aggregate-of-disjuncts : tie.Need-slice-aggregate-of-disjuncts
 slice-aggregate-of-disjuncts c = search needs
 
 of-disjuncts-requires : tie.Need-of-disjuncts-requires
 of-disjuncts-requires c κs =
-    let k = collected (c .before .before .before .before .before .before .before .before) in
-    let at = located (call (told k)) in
-    let pre = start at .pre in
-    let p = place at (pre .rule) (pre .ready) in
-    survey-asks p _ (period-is (told k) (pre .rule) (pre .ready)) _ _ (found k (pre .rule) (pre .ready)) (long k)
+    let k = collect (c .before .before .before .before .before .before .before .before) in
+    let p = the-place (begun (told k) .pre) in
+    survey-asks p (collected k p)
 
 planned-requires : tie.Need-planned-requires
 planned-requires c κs = search needs
@@ -263,23 +211,18 @@ planned-requires c κs = search needs
 enum-known-plan : tie.Need-enum-known-plan
 enum-known-plan c = search needs
 
-enum-told-3 : tie.Need-enum-told-3
-enum-told-3 c = search needs
+enum-told-2 : tie.Need-enum-told-2
+enum-told-2 c = search needs
 
-same-length-4 : tie.Need-same-length-4
-same-length-4 c = search needs
+same-length-3 : tie.Need-same-length-3
+same-length-3 c = search needs
 
-returns-4 : tie.Need-returns-4
-returns-4 c = λ r ready.
+returns-3 : tie.Need-returns-3
+returns-3 c = λ r ready at.
     let plan = c .before .before in
     let test = fitting (plan .before) in
-    let k = bounds-of plan in
-    let p = place (located (call (told k))) r ready in
-    let bounds = found k r ready in
-    let least = period-is (told k) r ready in
-    let new = new-disjunction p _ least _ _ bounds (long k) (test .if1 .left)
-    (test .before .disjuncts-over .ensures _ _ (the-body p) bounds) in
-    too-long p _ least _ _ bounds (long k) new _ (c .enum-told3 .given .1) (plan-is plan r ready)
+    let p = placed ready at in
+    too-long p (collected (collect (test .before)) p) (new test p) _ (c .enum-told2 .given .1) (plan-is plan p)
 
 slice-aggregate-rebuilt : tie.Need-slice-aggregate-rebuilt
 slice-aggregate-rebuilt c = search needs
@@ -289,55 +232,33 @@ rebuilt-requires c κs =
     let made = c .before .before .before .before in
     let plan = made .before .before in
     let test = fitting (plan .before) in
-    let k = bounds-of plan in
-    let at = located (call (told k)) in
-    let pre = start at .pre in
-    let p = place at (pre .rule) (pre .ready) in
-    let bounds = found k (pre .rule) (pre .ready) in
-    let least = period-is (told k) (pre .rule) (pre .ready) in
-    let new = new-disjunction p _ least _ _ bounds (long k) (test .if1 .left)
-    (test .before .disjuncts-over .ensures _ _ (the-body p) bounds) in
-    record {
-      rule = pre .rule;
-      quantifier = p .quantifier;
-      setting = _;
-      body = p .body;
-      rebuilding = rebuilding p refl (new-planned p _ least _ _ bounds (long k) new (made .plan .given .1)
-          (plan-is plan (pre .rule) (pre .ready)));
-    }
+    let k = collect (test .before) in
+    let p = the-place (begun (told k) .pre) in
+    some-rebuilding p refl (new-planned p (collected k p) (new test p) (made .plan .given .1) (plan-is plan p))
+
+same-length-4 : tie.Need-same-length-4
+same-length-4 c = search needs
 
 same-length-5 : tie.Need-same-length-5
 same-length-5 c = search needs
 
-same-length-6 : tie.Need-same-length-6
-same-length-6 c = search needs
-
-returns-5 : tie.Need-returns-5
-returns-5 c = λ r ready.
+returns-4 : tie.Need-returns-4
+returns-4 c = λ r ready at.
     let done = c .before .before .before .before in
     let made = done .before .before .before .before .before in
     let plan = made .before .before in
     let test = fitting (plan .before) in
-    let k = bounds-of plan in
-    let p = place (located (call (told k))) r ready in
-    let bounds = found k r ready in
-    let least = period-is (told k) r ready in
-    let new = new-disjunction p _ least _ _ bounds (long k) (test .if1 .left)
-    (test .before .disjuncts-over .ensures _ _ (the-body p) bounds) in
+    let p = placed ready at in
+    let known = collected (collect (test .before)) p in
     let is = made .plan .given .1 in
-    let planned = plan-is plan r ready in
-    planned-stepped p _ least _ _ bounds (long k) new is planned _ _
-    (done .rebuilt .ensures r _ _ _ (rebuilding p refl (new-planned p _ least _ _ bounds (long k) new is planned)))
+    let planned = plan-is plan p in
+    planned-stepped p known (new test p) is planned _ _
+    (done .rebuilt .ensures r _ _ _ (rebuilding p refl (new-planned p known (new test p) is planned)))
 
 pub disjunction-spec : {M : Type 1} → statement M
 disjunction-spec =
     tie.close
     (tie.spec
-    locate-requires
-    enum-known-located
-    enum-told
-    same-length
-    returns
     add-start
     mul-start
     sub-period
@@ -345,9 +266,9 @@ disjunction-spec =
     part-period-end
     period-requires
     enum-known-least
-    enum-told-2
-    same-length-2
-    returns-2
+    enum-told
+    same-length
+    returns
     cast-period
     sub-collect
     part-collect-start
@@ -359,8 +280,8 @@ disjunction-spec =
     part-disjuncts-over-end
     slice-aggregate-disjuncts-over
     disjuncts-over-requires
-    same-length-3
-    returns-3
+    same-length-2
+    returns-2
     add-entry
     mul-entry
     sub-of-disjuncts
@@ -375,11 +296,11 @@ disjunction-spec =
     of-disjuncts-requires
     planned-requires
     enum-known-plan
-    enum-told-3
-    same-length-4
-    returns-4
+    enum-told-2
+    same-length-3
+    returns-3
     slice-aggregate-rebuilt
     rebuilt-requires
+    same-length-4
     same-length-5
-    same-length-6
-    returns-5)
+    returns-4)
