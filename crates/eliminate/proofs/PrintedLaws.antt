@@ -15,14 +15,13 @@ use Rattle.rules.specs.Calls.{signed, words}
 use Rattle.rules.proofs.Numbers.{By}
 use Rattle.rules.proofs.Encoding.{AllGood, good-nodes}
 use Rattle.rules.proofs.Sizes.{length-nodes, length-bodies, weight, weight-is, size-is}
-use Rattle.tables.specs.Checks.{Listed}
-use Rattle.tables.proofs.WordLaws.{number-of, words-length}
-use Rattle.elimination.proofs.TableLaws.{first-word, size-there, stands-there}
+use Rattle.tables.specs.Checks.{ListedAs, Listed}
+use Rattle.tables.proofs.WordLaws.{number-of, words-length, words-between}
+use Rattle.tables.proofs.Standings.{count-there, size-there, bodies-there}
 use Rattle.leaveoff.specs.Result.{Held}
 use Rattle.text.specs.Lines.{lines}
 use Rattle.text.specs.Placed.{Placed}
 use Rattle.text.proofs.PlacedLaws.{placed-then, placed-as}
-use Rattle.text.proofs.NodeLaws.{part-words}
 use Rattle.eliminate.specs.Printed.{answer-line, node-lines, printed, TableIn, LeftBy}
 
 -- ---- a refusal has no other line
@@ -54,7 +53,7 @@ pub table-read : (x : Result Rule) {a : Answer} (l : List ℕ) → LeftBy x a (w
     → getD (words l) 0 (pos 0) ≡ signed n → (r : Rule) × (x ≡ given r) × TableRead l n (a .words) r
 table-read x l left zero n e =
     let (r, is, long, held) = table-left x left zero in
-    (r, is, record { held = held; counted = number-of n (count r) (sym e ∙ first-word (held .table)); long = long })
+    (r, is, record { held = held; counted = number-of n (count r) (sym e ∙ count-there (held .table)); long = long })
 
 module _ {l : List ℕ} {n w : ℕ} {r : Rule} (t : TableRead l n w r) where
   -- the bodies lie behind the entries, and end with the table
@@ -66,24 +65,24 @@ module _ {l : List ℕ} {n w : ℕ} {r : Rule} (t : TableRead l n w r) where
         omega (arith, t .long, fits, words-length l),
       )
 
-  pub bodies-are : words (take (w * 4 - (n + 1) * 4) (drop ((n + 1) * 4) l)) ≡ bodies 0 (nodes r)
+  bodies-are : words (take (w * 4 - (n + 1) * 4) (drop ((n + 1) * 4) l)) ≡ bodies 0 (nodes r)
   bodies-are =
       let k : ℕ = weight r in
       let all : w ≡ n + 1 + k = omega (arith, t .counted, t .long, size-is r) in
       let same : n + 1 ≡ count r + 1 = omega (arith, t .counted) in
-      let stands = stands-there (t .held .table) in
-      ap (λ (m : ℕ). words (take (m * 4 - (n + 1) * 4) (drop ((n + 1) * 4) l))) all ∙ part-words l (n + 1) k
-      ∙ ap (λ (m : ℕ). take k (drop m (words l))) same ∙ ap (take k) (stands .bodies)
-      ∙ take-at (bodies 0 (nodes r)) (stands .bodies-after) k (length-bodies 0 (nodes r) ∙ weight-is r)
+      ap (λ (m : ℕ). words (take (m * 4 - (n + 1) * 4) (drop ((n + 1) * 4) l))) all ∙ words-between l (n + 1) k
+      ∙ ap (λ (m : ℕ). take k (drop m (words l))) same ∙ ap (take k) (bodies-there (t .held .table))
+      ∙ take-at (bodies 0 (nodes r)) (t .held .table .after) k (length-bodies 0 (nodes r) ∙ weight-is r)
 
-  pub so-many : length (nodes r) ≡ n
-  so-many = omega (arith, length-nodes r, t .counted)
-
-  pub all-good : AllGood (nodes r)
-  all-good = rw (append-nil (nodes r)) at (good-nodes r [] .1 (t .held .formed, unfold AllGood in tt))
+  pub listed-as : ListedAs (words (take (w * 4 - (n + 1) * 4) (drop ((n + 1) * 4) l))) 0 n (nodes r)
+  listed-as = record {
+    bodies-are = bodies-are;
+    long = omega (arith, length-nodes r, t .counted);
+    good = rw (append-nil (nodes r)) at (good-nodes r [] .1 (t .held .formed, unfold AllGood in tt));
+  }
 
   pub listed : Listed (words (take (w * 4 - (n + 1) * 4) (drop ((n + 1) * 4) l))) 0 n
-  listed = record { nodes = nodes r; bodies = bodies-are; long = so-many; good = all-good }
+  listed = record { nodes = nodes r; listed = listed-as }
 
   -- with the nodes they are all words but the first
   pub counts : n + length (words (take (w * 4 - (n + 1) * 4) (drop ((n + 1) * 4) l))) + 1 ≡ w

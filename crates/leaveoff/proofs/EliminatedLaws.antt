@@ -16,7 +16,7 @@ use Rattle.rules.specs.Answer.{verdict-of, table-answer}
 use Rattle.rules.specs.Laws.{WellFormed}
 use Rattle.rules.specs.Calls.{bytes-of, rule-of, room, Outcome, table-bytes, outcome, eliminated}
 use Rattle.rules.proofs.Refusals.{then, parts}
-use Rattle.rules.proofs.Numbers.{By}
+use Rattle.rules.proofs.Numbers.{By, by-more}
 use Rattle.rules.proofs.Bytes.{length-bytes, rule-back, rule-forth}
 use Rattle.rules.proofs.Soundness.{sound}
 use Rattle.rules.proofs.Verdicts.{closed-right}
@@ -27,7 +27,7 @@ use Rattle.tables.proofs.Passed.{TableOf}
 use Rattle.elimination.specs.Stepping.{Stepped}
 use Rattle.leaveoff.specs.Outcome.{answer-of, outcome-of, steps-of, refusal-number, Means, Eliminates, Fits}
 use Rattle.leaveoff.specs.declared.answer.Answer as declared
-use Rattle.leaveoff.proofs.StepNumbers.{more-by, steps-by}
+use Rattle.leaveoff.proofs.StepNumbers.{steps-by}
 use Rattle.leaveoff.proofs.FirstLaws.{check-refused}
 use Rattle.leaveoff.proofs.LentLaws.{room-there, Gives, outcome-once, answer-fits}
 
@@ -75,7 +75,7 @@ unfolding eliminated steps-of outcome
 eliminated-fits table out work =
     let r = room out work in
     answer-fits r (steps-of table r) (room-there out work r refl .2)
-    (more-by 7 8 (omega arith) (steps-of table r) (steps-by table r)) (steps-give table r)
+    (by-more 7 8 (steps-of table r) (omega arith) (steps-by table r)) (steps-give table r)
 
 -- ---- what it says
 

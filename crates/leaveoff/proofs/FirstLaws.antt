@@ -4,24 +4,29 @@ use mathlib.Core.Path.{_≡_, refl, sym, _∙_, ap, subst}
 use mathlib.Core.List.{List}
 use Prim.Native.Nat.{ℕ}
 use native.Mathlib.Omega.{arith}
-use lib.IntN.{ℤ}
-use lib.ListN.{length}
+use lib.IntN.{ℤ, pos}
+use lib.ListN.{length, getD}
 use Rattle.rules.specs.Rule.{Rule}
 use Rattle.rules.specs.Result.{Result, refused, given, _>>=_}
+use Rattle.rules.specs.Table.{count}
 use Rattle.rules.specs.Chosen.{quantifiers}
 use Rattle.rules.specs.Eliminate.{step-table, rounds, eliminate}
 use Rattle.rules.specs.Laws.{InTable, WellFormed}
-use Rattle.rules.specs.Calls.{rule-of}
+use Rattle.rules.specs.Calls.{signed, rule-of}
 use Rattle.rules.proofs.Refusals.{then}
 use Rattle.rules.proofs.Numbers.{By}
 use Rattle.rules.proofs.Folding.{Folded, keep-fold, folded-fold}
 use Rattle.rules.proofs.Shapes.{each-by-parts}
-use Rattle.rules.proofs.Soundness.{settled}
+use Rattle.rules.proofs.Soundness.{settled, follows-none}
+use Rattle.rules.proofs.Rounds.{quantifiers-few, rounds-enough}
 use Rattle.tables.specs.Standing.{TableAt}
 use Rattle.tables.specs.Checks.{Verdict}
 use Rattle.tables.specs.declared.check.Checked.{Checked}
 use Rattle.tables.specs.declared.check.Checked.the-variants.{Not}
+use Rattle.tables.proofs.WordLaws.{number-of}
+use Rattle.tables.proofs.Standings.{count-there}
 use Rattle.elimination.specs.Stepping.{StepReady, Stepped, FirstReady}
+use Rattle.elimination.proofs.StepLaws.{answered}
 use Rattle.leaveoff.specs.Outcome.{refusal-number}
 use Rattle.leaveoff.proofs.StepNumbers.{step-table-by}
 
@@ -40,9 +45,6 @@ unfolding Stepped
 not-made (refused k) n ts s some = ap refused (sym s)
 not-made (given f) n ts s some = absurd (some (s .0))
 
-pub stepped-by : {x y : Result Rule} (k : ℕ) (ts : List ℤ) → x ≡ y → Stepped y k ts → Stepped x k ts
-stepped-by k ts e s = subst (λ (x : Result Rule). Stepped x k ts) (sym e) s
-
 -- ---- the check
 
 -- its refusal is the call's, whatever would follow
@@ -50,7 +52,7 @@ pub check-refused : (l : List ℕ) (call : Rule → Result Rule) {v : Checked} {
     → Verdict (rule-of l) v → refusal-number v k → Stepped (rule-of l >>= call) k ts
 unfolding Verdict refusal-number Stepped _>>=_
 check-refused l call k ts e h i =
-    stepped-by k ts (ap (λ (x : Result Rule). x >>= call) (subst (Verdict (rule-of l)) e h))
+    answered ts k (ap (λ (x : Result Rule). x >>= call) (subst (Verdict (rule-of l)) e h))
     (subst (λ (v : Checked). refusal-number v k) e i)
 
 -- ---- the first step table of the rule r
@@ -63,7 +65,7 @@ module _ (room : ℕ) (r : Rule) where
   first-refused k ts s some =
       let refuses : eliminate room r ≡ refused k =
       ap (λ (x : Result Rule). x >>= λ f. rounds (quantifiers f) room f) (not-made (step-table room r) k ts s some) in
-      stepped-by k ts refuses refl
+      answered ts k refuses refl
 
   -- it is f, in the buffer
   pub first-made : (k : ℕ) (ts : List ℤ) → Stepped (step-table room r) k ts → k ≡ 0
@@ -91,4 +93,15 @@ module _ (room : ℕ) (r : Rule) where
   pub rounds-stepped : {f : Rule} (k : ℕ) (ts : List ℤ) → step-table room r ≡ given f
       → Stepped (rounds (quantifiers f) room f) k ts → Stepped (eliminate room r) k ts
   unfolding eliminate
-  rounds-stepped k ts e s = stepped-by k ts (then (λ f. rounds (quantifiers f) room f) e) s
+  rounds-stepped k ts e s = answered ts k (then (λ f. rounds (quantifiers f) room f) e) s
+
+-- ---- the rounds
+
+-- word 0 has the number of nodes; there are no more quantifiers, and more rounds change nothing
+pub rounds-for-all : {ts ws : List ℤ} {room : ℕ} {f : Rule} → StepReady ts ws room f → (n : ℕ)
+    → getD ts 0 (pos 0) ≡ signed n → (k : ℕ) (us : List ℤ) → Stepped (rounds n room f) k us
+    → Stepped (rounds (quantifiers f) room f) k us
+rounds-for-all {room = room} {f = f} ready n e k us s =
+    let counted : n ≡ count f = number-of n (count f) (sym e ∙ count-there (ready .has .table)) in
+    let start = follows-none (ready .folded) (ready .has .formed) (ready .fits) in
+    answered us k (sym (rounds-enough n room f start (omega (arith, quantifiers-few f)))) s

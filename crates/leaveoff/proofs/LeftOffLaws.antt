@@ -1,7 +1,7 @@
 -- What the leave-off test's outcome says: it is one, and its verdict tells whether the line matters.
 -- Assumes nothing.
 use mathlib.Core.Path.{_≡_, refl, sym, _∙_, ap, ap₂, subst}
-use mathlib.Core.Bool.{Bool, true, false, _&&_}
+use mathlib.Core.Bool.{Bool, true, false, _&&_, and-false}
 use mathlib.Core.List.{List}
 use mathlib.Core.Logic.{inl, inr}
 use Prim.Native.Nat.{ℕ, _<_, _≤_}
@@ -27,24 +27,21 @@ use Rattle.rules.proofs.Numbers.{By}
 use Rattle.rules.proofs.Encoding.{setting-range}
 use Rattle.rules.proofs.Bytes.{rule-forth}
 use Rattle.rules.proofs.Soundness.{sound}
-use Rattle.rules.proofs.Verdicts.{question-formed, natural, asked, leave-off-right}
+use Rattle.rules.proofs.Verdicts.{question-formed, natural-setting, asked, leave-off-right}
 use Rattle.tables.specs.Checks as Checks
 use Rattle.tables.specs.Standing.{TableAt}
 use Rattle.tables.specs.declared.check.Checked.{Checked}
 use Rattle.tables.specs.declared.check.Checked.the-variants.{Not}
 use Rattle.tables.proofs.Passed.{TableOf, table-formed}
 use Rattle.elimination.specs.Stepping.{InPlace, Stepped, FirstReady}
+use Rattle.elimination.proofs.StepLaws.{answered}
 use Rattle.leaveoff.specs.Outcome.{answer-of, outcome-of, test-of, refusal-number, Tells, TestsLine, Fits}
 use Rattle.leaveoff.specs.declared.answer.Answer as declared
 use Rattle.leaveoff.proofs.StepNumbers.{tests-by}
-use Rattle.leaveoff.proofs.FirstLaws.{stepped-by, check-refused}
+use Rattle.leaveoff.proofs.FirstLaws.{check-refused}
 use Rattle.leaveoff.proofs.LentLaws.{room-there, Gives, outcome-once, answer-fits}
 
 -- ---- a setting
-
-and-false : (b : Bool) → (b && false) ≡ false
-and-false true = refl
-and-false false = refl
 
 below-one : (u : ℤ) → ltZ u (pos 1) ≡ true → is-setting u ≡ false
 unfolding is-setting
@@ -90,7 +87,7 @@ module _ (v : ℤ) (fits : SFits w32 v) where
       is-one = subst T (sym (sym found ∙ e)) tt
 
       pub passes : T (is-setting (pos (natAbs (again v))))
-      passes = natural (again v) is-one
+      passes = natural-setting (again v) is-one
 
       same-natural : pos (natAbs (again v)) ≡ again v
       same-natural = go (again v) is-one
@@ -138,14 +135,14 @@ module _ (room v : ℕ) (r : Rule) (setting : T (is-setting (pos v))) where
   unfolding Stepped require _>>=_
   too-large ts e h =
       let refuses : leb (size (question v r)) room ≡ false = lt-leb (size (question v r)) room (omega (arith, e, h)) in
-      stepped-by 6 ts (asks ∙ ap (λ (b : Bool). require b 6 >>= λ w. eliminate room (question v r)) refuses) refl
+      answered ts 6 (asks ∙ ap (λ (b : Bool). require b 6 >>= λ w. eliminate room (question v r)) refuses) refl
 
   pub asked-stepped : {s : ℕ} (k : ℕ) (ts : List ℤ) → s ≡ size (question v r) → s ≤ room
       → Stepped (eliminate room (question v r)) k ts → Stepped (leave-off room (pos v) r) k ts
   unfolding require _>>=_
   asked-stepped k ts e h s =
       let fits : leb (size (question v r)) room ≡ true = le-leb (size (question v r)) room (omega (arith, e, h)) in
-      stepped-by k ts (asks ∙ ap (λ (b : Bool). require b 6 >>= λ w. eliminate room (question v r)) fits) s
+      answered ts k (asks ∙ ap (λ (b : Bool). require b 6 >>= λ w. eliminate room (question v r)) fits) s
 
 -- the question's table is ready for the first step
 pub asked-ready : {l : List ℕ} {n : ℕ} {r : Rule} (room v : ℕ) {ts ws us : List ℤ} → TableOf l n r

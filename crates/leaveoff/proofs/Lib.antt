@@ -5,3 +5,5 @@ pub mod LentLaws
 pub mod EliminatedLaws
 pub mod LeftOffLaws
 pub mod ResultLaws
+pub mod OccurringLaws
+pub mod ResultBytes

@@ -2,12 +2,12 @@
 -- Assumes nothing.
 use mathlib.Core.Bool.{Bool, true, false, not}
 use mathlib.Core.List.{List}
-use Prim.Native.Nat.{ℕ, zero, suc, _≤_}
+use Prim.Native.Nat.{ℕ, zero, suc}
 use native.Mathlib.Omega.{arith}
 use lib.Dec.{leb}
 use lib.IntN.{ℤ, natAbs}
 use Rattle.rules.specs.Rule.{Quantifier, for-some, for-all, Rule, Some}
-use Rattle.rules.specs.Result.{Result, refused, given, _>>=_, require}
+use Rattle.rules.specs.Result.{Result, given, _>>=_}
 use Rattle.rules.specs.Table.{size, is-setting}
 use Rattle.rules.specs.Fold.{fold}
 use Rattle.rules.specs.Literals.{some-literal}
@@ -17,28 +17,16 @@ use Rattle.rules.specs.Eliminate.{over-limit, most-period, step-table, on-chose
 use Rattle.rules.specs.Eliminate.{common-step, disjunction-step, round, rounds, eliminate}
 use Rattle.rules.specs.LeaveOff.{question, leave-off}
 use Rattle.rules.specs.Calls.{rule-of}
-use Rattle.rules.proofs.Numbers.{By, by-then, rule-of-by}
+use Rattle.rules.proofs.Numbers.{By, by-then, by-test, by-more, rule-of-by}
 use Rattle.leaveoff.specs.Outcome.{steps-of, test-of}
-
--- a test, and what follows where it is passed
-test-by : (m : ℕ) (b : Bool) (n : ℕ) → 1 ≤ n → n ≤ m → {B : Type 0} (f : Unit {0} → Result B) → By m (f tt)
-    → By m (require b n >>= f)
-unfolding By require _>>=_
-test-by m true n h l f g = g
-test-by m false n h l f g = (h, l)
-
-pub more-by : (m k : ℕ) → m ≤ k → (x : Result Rule) → By m x → By k x
-unfolding By
-more-by m k h (given r) b = tt
-more-by m k h (refused n) b = (b .0, omega (arith, b .1))
 
 -- ---- the step tables
 
 pub step-table-by : (room : ℕ) (r : Rule) → By 7 (step-table room r)
 unfolding By step-table
 step-table-by room r =
-    test-by 7 (not (some-literal over-limit r)) 5 (omega arith) (omega arith) _
-    (test-by 7 (leb (size (fold r)) room) 6 (omega arith) (omega arith) _ tt)
+    by-test 7 (not (some-literal over-limit r)) 5 (omega arith) (omega arith) _
+    (by-test 7 (leb (size (fold r)) room) 6 (omega arith) (omega arith) _ tt)
 
 chosen-by : (r : Rule) (c : Chosen) (step : Quantifier → ℕ → Rule → Result Rule)
     → ((q : Quantifier) (x : ℕ) (a : Rule) → By 7 (step q x a)) → By 7 (on-chosen r c step)
@@ -65,13 +53,13 @@ module _ (room : ℕ) (r : Rule) where
   common-by : By 7 (common-step room r)
   unfolding common-step
   common-by = chosen-by r (chosen r) _ (λ q x a.
-      test-by 7 (leb (common-factor x a) most-period) 7 (omega arith) (omega arith) _
+      by-test 7 (leb (common-factor x a) most-period) 7 (omega arith) (omega arith) _
       (step-table-by room (replace (Some x (scaled (common-factor x a) x a)) r)))
 
   disjunction-by : By 7 (disjunction-step room r)
   unfolding disjunction-step
   disjunction-by = chosen-by r (chosen r) _ (λ q x a.
-      test-by 7 (leb (period a) most-period) 7 (omega arith) (omega arith) _
+      by-test 7 (leb (period a) most-period) 7 (omega arith) (omega arith) _
       (step-table-by room (replace (disjunction (period a) x a) r)))
 
 round-by : (room : ℕ) (r : Rule) → By 7 (round room r)
@@ -103,7 +91,7 @@ eliminate-by room r =
 pub steps-by : (l : List ℕ) (room : ℕ) → By 7 (steps-of l room)
 unfolding steps-of
 steps-by l room =
-    by-then 7 (rule-of l) (eliminate room) (more-by 4 7 (omega arith) (rule-of l) (rule-of-by l)) (eliminate-by room)
+    by-then 7 (rule-of l) (eliminate room) (by-more 4 7 (rule-of l) (omega arith) (rule-of-by l)) (eliminate-by room)
 
 -- ---- the leave-off test
 
@@ -111,12 +99,12 @@ leave-off-by : (room : ℕ) (v : ℤ) (r : Rule) → By 8 (leave-off room v r)
 unfolding leave-off
 leave-off-by room v r =
     let q = question (natAbs v) r in
-    test-by 8 (is-setting v) 8 (omega arith) (omega arith) _
-    (test-by 8 (leb (size q) room) 6 (omega arith) (omega arith) _
-    (more-by 7 8 (omega arith) (eliminate room q) (eliminate-by room q)))
+    by-test 8 (is-setting v) 8 (omega arith) (omega arith) _
+    (by-test 8 (leb (size q) room) 6 (omega arith) (omega arith) _
+    (by-more 7 8 (eliminate room q) (omega arith) (eliminate-by room q)))
 
 pub tests-by : (l : List ℕ) (v : ℤ) (room : ℕ) → By 8 (test-of l v room)
 unfolding test-of
 tests-by l v room =
-    by-then 8 (rule-of l) (leave-off room v) (more-by 4 8 (omega arith) (rule-of l) (rule-of-by l))
+    by-then 8 (rule-of l) (leave-off room v) (by-more 4 8 (rule-of l) (omega arith) (rule-of-by l))
     (leave-off-by room v)

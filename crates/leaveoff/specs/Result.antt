@@ -1,10 +1,8 @@
--- A result's table at the start of a lent buffer of any length, and the verdict by the kind of its root.
+-- A result's table at the start of a lent buffer of any length, and the end of a call that makes one.
 -- Assumes nothing.
 use mathlib.Core.Path.{_≡_}
-use mathlib.Core.Bool.{cond}
 use mathlib.Core.List.{List}
 use Prim.Native.Nat.{ℕ, _≤_}
-use lib.Dec.{eqb}
 use lib.IntN.{ℤ}
 use Rattle.rules.specs.Rule.{Rule}
 use Rattle.rules.specs.Result.{Result, refused, given}
@@ -29,7 +27,3 @@ Ended (given f) n ts = (n ≡ 0) × Held ts f
 pub record SomeEnd (n : ℕ) (ts : List ℤ) : Type 0 where
   pub end : Result Rule
   pub ended : Ended end n ts
-
--- the kinds of a bare false and a bare true are 0 and 1
-abbrev pub kind-verdict : ℕ → ℕ
-kind-verdict k = cond (eqb k 0) 2 (cond (eqb k 1) 1 3)

@@ -26,13 +26,13 @@ pub fn number(c: Checked) -> u32
     }
 }
 
-// "While a quantifier remains": as many rounds as the first step table has quantifiers.
+// "While a quantifier remains": each is a node, so that there are rounds enough for all.
 pub fn all_rounds(out: &mut [u8], work: &mut [u8], room: usize) -> u32
     requires { ⌜ SomeStepReady (words-of (now out)) (words-of (now work)) room ⌝ }
     ensures { λ n. ⌜ ((f : Rule) → StepReady (words-of (now (out .entry))) (words-of (now (work .entry))) room f
         → Stepped (rounds-of (quantifiers f) room f) n (words-of (now (out .exit)))) ⌝ }
 {
-    let most = result::quantifiers(out);
+    let most = words::natural(out, 0);
     rounds::rounds(out, work, room, most)
 }
 

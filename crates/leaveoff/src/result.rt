@@ -1,6 +1,5 @@
 // The result of a call that makes a table: its answer, and zeros after the table.
 use crate::answer::Answer;
-use bodies::chosen;
 use bodies::cursor;
 use bodies::span;
 use bodies::span::Extent;
@@ -17,8 +16,7 @@ ghost use Rattle.rules.specs.Sum.{Sum, has};
 ghost use Rattle.rules.specs.Rule.{Test, Rule};
 ghost use Rattle.rules.specs.Result.{given};
 ghost use Rattle.rules.specs.Table.{count, encode};
-ghost use Rattle.rules.specs.Chosen.{quantifiers as quantifiers-of};
-ghost use Rattle.rules.specs.Answer.{settings-of, table-answer};
+ghost use Rattle.rules.specs.Answer.{verdict-of, settings-of, table-answer};
 ghost use Rattle.rules.specs.Calls.{words as words-of, bytes-of};
 ghost use Rattle.rules.proofs.Sizes.{weight};
 ghost use Rattle.tables.specs.Settings.{IsSet};
@@ -26,7 +24,7 @@ ghost use Rattle.bodies.specs.Body.{BodyOf, SomeBody};
 ghost use Rattle.bodies.specs.Cursor.{LiteralAt, SomeLiteral};
 ghost use Rattle.elimination.specs.Stepping.{HasTable, SomeTable};
 ghost use Rattle.leaveoff.specs.Outcome.{answer-of};
-ghost use Rattle.leaveoff.specs.Result.{kind-verdict, Held, SomeHeld};
+ghost use Rattle.leaveoff.specs.Result.{Held, SomeHeld};
 
 // How many nodes and words the rule has whose table starts these words: its bodies stand behind word 0 and the entries.
 fn whole(table: &[u8]) -> Extent
@@ -39,20 +37,12 @@ fn whole(table: &[u8]) -> Extent
     span::span(&table[4..], &table[from..], 0, n + 1)
 }
 
-// How many quantifiers it has.
-pub fn quantifiers(table: &[u8]) -> usize
-    requires { ⌜ SomeTable (words-of (now table)) ⌝ }
-    ensures { λ n. ⌜ ((r : Rule) → HasTable (words-of (now (table .entry))) r → n ≡ quantifiers-of r) ⌝ }
-{
-    let rule = whole(table);
-    let from = (rule.nodes + 1) * 4;
-    chosen::count(&table[from..], rule.words)
-}
-
 // "Open means only that the folded result is not a bare true or false", whose kinds are 1 and 0.
-fn verdict(kind: usize) -> u32
-    ensures { λ r. ⌜ r ≡ kind-verdict kind ⌝ }
+fn verdict(bodies: &[u8]) -> u32
+    requires { ⌜ ((end : ℕ) × SomeBody (words-of (now bodies)) end) ⌝ }
+    ensures { λ v. ⌜ ((end n : ℕ) (a : Rule) → BodyOf (words-of (now (bodies .entry))) end n a → v ≡ verdict-of a) ⌝ }
 {
+    let kind = words::natural(bodies, 0);
     if kind == 0 {
         return 2;
     }
@@ -112,7 +102,7 @@ fn answered(table: &[u8]) -> Answer
 {
     let rule = whole(table);
     let from = (rule.nodes + 1) * 4;
-    let verdict = verdict(words::natural(table, rule.nodes + 1));
+    let verdict = verdict(&table[from..]);
     let settings = occurring(&table[from..], rule.words);
     Answer {
         number: 0,

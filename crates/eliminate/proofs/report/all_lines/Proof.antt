@@ -8,11 +8,11 @@ use Rattle.rules.specs.Result.{Result, given}
 use Rattle.rules.specs.Table.{nodes}
 use Rattle.rules.specs.Calls.{words}
 use Rattle.rules.proofs.Sizes.{size-is}
-use Rattle.elimination.proofs.TableLaws.{size-there}
+use Rattle.tables.proofs.Standings.{size-there}
 use Rattle.leaveoff.specs.Outcome.{answer-of}
 use Rattle.eliminate.specs.Printed.{LeftBy}
 use Rattle.eliminate.proofs.PrintedLaws.{refused-put, TableRead, table-left, table-read, table-put}
-use Rattle.eliminate.proofs.PrintedLaws.{inside, bodies-are, so-many, all-good, listed, counts}
+use Rattle.eliminate.proofs.PrintedLaws.{inside, listed-as, listed, counts}
 use Rattle.eliminate.proofs.report.all_lines.Statement.{statement}
 use Rattle.eliminate.proofs.report.all_lines.Tie as tie
 
@@ -101,7 +101,7 @@ returns-2 c =
     let (some, table) = some-table read in (
       λ x left. let (r, is, t) = the-table read x left in
           table-put left is (first .four .ensures .0)
-          (put .lines .ensures .0 (nodes r) (bodies-are t) (so-many t) (all-good t)),
+          (put .lines .ensures .0 (nodes r) (listed-as t)),
       omega (arith, put .lines .ensures .1, counts table, inside table .1, first .four .ensures .1),
     )
 

@@ -32,7 +32,8 @@ ended c =
     let n = r .room .result in
     let (in-out, in-work, most) =
     room-there (length (args .out .now)) (length (args .work .now)) n (r .room .ensures) in
-    part-ended 7 _ _ n (args .out .now) _ (steps-by _ n) (steps-give _ n) most in-out (c .stepped .kept .1 .0) (c .stepped .ensures)
+    let call = c .stepped in
+    part-ended 7 _ _ n (args .out .now) _ (steps-by _ n) (steps-give _ n) most in-out (call .kept .1 .0) (call .ensures)
 
 room-requires : tie.Need-room-requires
 room-requires c κs = search needs

@@ -1,4 +1,4 @@
--- `eliminate::stepped` meets its contract: the refusal of the check or of the first step table, or what the rounds make.
+-- `eliminate::stepped` meets its contract: the refusal of the check or of the first step table, or what rounds make.
 -- Assumes nothing.
 use mathlib.Core.Path.{_≡_, subst}
 use borrow.Author.Needs.{needs}
@@ -7,10 +7,11 @@ use Rattle.rules.specs.Result.{given}
 use Rattle.rules.specs.Eliminate.{step-table}
 use Rattle.rules.specs.Calls.{words}
 use Rattle.tables.specs.Checks.{Verdict}
+use Rattle.tables.proofs.WordLaws.{same-words}
 use Rattle.tables.proofs.Passed.{TableOf, passed, table-formed}
-use Rattle.finishing.proofs.CopyLaws.{same-words}
 use Rattle.elimination.specs.Stepping.{StepReady, Stepped}
-use Rattle.leaveoff.proofs.FirstLaws.{stepped-by, first-refused, first-made, first-ready, rounds-stepped}
+use Rattle.elimination.proofs.StepLaws.{answered}
+use Rattle.leaveoff.proofs.FirstLaws.{first-refused, first-made, first-ready, rounds-stepped}
 use Rattle.leaveoff.proofs.EliminatedLaws.{steps-are, steps-refused}
 use Rattle.leaveoff.proofs.eliminate.stepped.Statement.{statement}
 use Rattle.leaveoff.proofs.eliminate.stepped.Tie as tie
@@ -86,12 +87,12 @@ returns-2 : tie.Need-returns-2
 returns-2 c =
     let first = c .before .before .before .before .before in
     let (r, t) = table (passing first) in
-    stepped-by _ _ (steps-are _ t) (first-refused _ r _ _ (first-step first) (c .if1 .taken))
+    answered _ _ (steps-are _ t) (first-refused _ r _ _ (first-step first) (c .if1 .taken))
 
 all-rounds-requires : tie.Need-all-rounds-requires
 all-rounds-requires c κs =
-    let answered = c .before .before in
-    let f = first-of (answered .before .before .before .before .before) (answered .if1 .left) in
+    let passed-first = c .before .before in
+    let f = first-of (passed-first .before .before .before .before .before) (passed-first .if1 .left) in
     record { rule = _; ready = f .ready }
 
 same-length-3 : tie.Need-same-length-3
@@ -103,11 +104,11 @@ same-length-4 c = search needs
 returns-3 : tie.Need-returns-3
 returns-3 c =
     let went-round = c .before .before .before .before in
-    let answered = went-round .before .before .before in
-    let first = answered .before .before .before .before .before in
+    let passed-first = went-round .before .before .before in
+    let first = passed-first .before .before .before .before .before in
     let (r, t) = table (passing first) in
-    let f = first-of first (answered .if1 .left) in
-    stepped-by _ _ (steps-are _ t)
+    let f = first-of first (passed-first .if1 .left) in
+    answered _ _ (steps-are _ t)
     (rounds-stepped _ r _ _ (f .is) (went-round .all-rounds .ensures (f .rule) (f .ready)))
 
 pub stepped-spec : {M : Type 1} → statement M

@@ -8,8 +8,8 @@ use Rattle.rules.specs.Result.{given}
 use Rattle.rules.specs.LeaveOff.{question}
 use Rattle.rules.specs.Eliminate.{step-table}
 use Rattle.rules.specs.Calls.{words, rule-of}
+use Rattle.tables.proofs.WordLaws.{same-words}
 use Rattle.tables.proofs.Passed.{passed, verdict-table}
-use Rattle.finishing.proofs.CopyLaws.{same-words}
 use Rattle.elimination.specs.Stepping.{StepReady, InPlace, Stepped}
 use Rattle.elimination.proofs.RebuildLaws.{here-ready}
 use Rattle.leaveoff.proofs.FirstLaws.{first-refused, first-made, first-ready, rounds-stepped}

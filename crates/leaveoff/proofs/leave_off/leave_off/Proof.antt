@@ -32,7 +32,9 @@ ended c =
     let n = r .room .result in
     let (in-out, in-work, most) =
     room-there (length (args .out .now)) (length (args .work .now)) n (r .room .ensures) in
-    part-ended 8 _ _ n (args .out .now) _ (tests-by _ _ n) (test-gives _ _ n) most in-out (c .tested .kept .1 .1 .0) (c .tested .ensures)
+    let call = c .tested in
+    part-ended 8 _ _ n (args .out .now) _ (tests-by _ _ n) (test-gives _ _ n) most in-out (call .kept .1 .1 .0)
+    (call .ensures)
 
 room-requires : tie.Need-room-requires
 room-requires c κs = search needs

@@ -9,7 +9,7 @@ use Rattle.rules.specs.Calls.{words}
 use Rattle.tables.specs.Checks.{Verdict}
 use Rattle.tables.proofs.Passed.{TableOf, passed}
 use Rattle.elimination.specs.Stepping.{Stepped}
-use Rattle.leaveoff.proofs.FirstLaws.{stepped-by}
+use Rattle.elimination.proofs.StepLaws.{answered}
 use Rattle.leaveoff.proofs.LeftOffLaws.{none-found, passes, setting-again, is-natural}
 use Rattle.leaveoff.proofs.LeftOffLaws.{test-is, test-refused, no-setting}
 use Rattle.leaveoff.proofs.leave_off.tested.Statement.{statement}
@@ -75,7 +75,7 @@ returns-2 c =
     let p = passing (found .before) in
     let s = start p in
     let (r, t) = table p in
-    stepped-by _ _ (test-is _ _ t)
+    answered _ _ (test-is _ _ t)
     (subst
     (λ (v : ℤ). Stepped (leave-off (s .args .room) v r) (made .answered .result)
     (words (made .answered .last .1 .1 .1 .0)))
@@ -86,7 +86,7 @@ returns-3 : tie.Need-returns-3
 returns-3 c =
     let p = passing (c .before) in
     let (r, t) = table p in
-    stepped-by _ _ (test-is _ _ t)
+    answered _ _ (test-is _ _ t)
     (no-setting _ _ r _ (none-found _ (start p .fits .v) (c .before .is-setting .ensures) (c .if1 .left)))
 
 pub tested-spec : {M : Type 1} → statement M

@@ -1,6 +1,5 @@
 -- `result::answered` meets its contract: the verdict is by the root's kind, the words and settings are the rule's.
 -- Assumes nothing.
-use mathlib.Core.Path.{_∙_}
 use Prim.Native.Nat.{_+_, _≤_}
 use native.Mathlib.Omega.{arith}
 use borrow.Author.Needs.{needs}
@@ -8,7 +7,7 @@ use Rattle.rules.specs.Rule.{Rule}
 use Rattle.rules.specs.Calls.{words}
 use Rattle.elimination.specs.Stepping.{HasTable}
 use Rattle.elimination.proofs.TableLaws.{ReadTable, starts-inside, bodies-near, rule-body}
-use Rattle.leaveoff.proofs.ResultLaws.{table-body, root-inside, words-few, verdict-read, answer-is}
+use Rattle.leaveoff.proofs.ResultLaws.{table-body, words-few, answer-is}
 use Rattle.leaveoff.proofs.result.answered.Statement.{statement}
 use Rattle.leaveoff.proofs.result.answered.Tie as tie
 
@@ -35,50 +34,54 @@ add-from c = omega (arith, bodies-near (the-table (c .before)))
 mul-from : tie.Need-mul-from
 mul-from c = omega (arith, bodies-near (the-table (c .before)))
 
-add-natural : tie.Need-add-natural
-add-natural c = omega (arith, bodies-near (the-table (c .before .before)))
+sub-verdict : tie.Need-sub-verdict
+sub-verdict c = starts-inside (the-table (c .before)) .1
 
-natural-requires : tie.Need-natural-requires
-natural-requires c κs = root-inside (the-table (c .before .before))
+part-verdict-start : tie.Need-part-verdict-start
+part-verdict-start c = starts-inside (the-table (c .before)) .1
+
+part-verdict-end : tie.Need-part-verdict-end
+part-verdict-end c = search needs
 
 verdict-requires : tie.Need-verdict-requires
-verdict-requires c κs = search needs
+verdict-requires c κs =
+    let counted = c .before .before in
+    let t = the-table counted in
+    (_, table-body t _ (counted .whole .ensures _ (t .has) .1))
 
 sub-occurring : tie.Need-sub-occurring
-sub-occurring c = starts-inside (the-table (c .before .before .before .before)) .1
+sub-occurring c = starts-inside (the-table (c .before .before .before)) .1
 
 part-occurring-start : tie.Need-part-occurring-start
-part-occurring-start c = starts-inside (the-table (c .before .before .before .before)) .1
+part-occurring-start c = starts-inside (the-table (c .before .before .before)) .1
 
 part-occurring-end : tie.Need-part-occurring-end
 part-occurring-end c = search needs
 
 occurring-requires : tie.Need-occurring-requires
 occurring-requires c κs =
-    let counted = c .before .before .before .before .before in
+    let counted = c .before .before .before .before in
     let t = the-table counted in
     table-body t _ (counted .whole .ensures _ (t .has) .1)
 
-add-t7 : tie.Need-add-t7
-add-t7 c = omega (arith, few (c .before .before .before .before .before .before .before))
-
 add-t6 : tie.Need-add-t6
-add-t6 c = omega (arith, few (c .before .before .before .before .before .before .before .before))
+add-t6 c = omega (arith, few (c .before .before .before .before .before .before))
 
-cast-t11 : tie.Need-cast-t11
-cast-t11 c = omega (arith, few (c .before .before .before .before .before .before .before .before))
+add-t13 : tie.Need-add-t13
+add-t13 c = omega (arith, few (c .before .before .before .before .before .before .before))
+
+cast-t14 : tie.Need-cast-t14
+cast-t14 c = omega (arith, few (c .before .before .before .before .before .before .before))
 
 returns : tie.Need-returns
 returns c =
     let found = c .before .before in
     let judged = found .before .before in
-    let read = judged .before in
-    let counted = read .before .before .before in
+    let counted = judged .before .before .before in
     λ r has.
-    let t = table counted r has in
     let (nodes, long) = counted .whole .ensures r has in
-    answer-is r _ _ _ _ (judged .verdict .ensures ∙ verdict-read t (read .natural .result) (read .natural .ensures .1))
-    nodes long (found .occurring .ensures 0 r (rule-body t (counted .whole .result .words) long))
+    let body = rule-body (table counted r has) (counted .whole .result .words) long in
+    answer-is r _ _ _ _ (judged .verdict .ensures _ 0 r body) nodes long (found .occurring .ensures 0 r body)
 
 pub answered-spec : {M : Type 1} → statement M
 answered-spec =
@@ -87,14 +90,15 @@ answered-spec =
     whole-requires
     add-from
     mul-from
-    add-natural
-    natural-requires
+    sub-verdict
+    part-verdict-start
+    part-verdict-end
     verdict-requires
     sub-occurring
     part-occurring-start
     part-occurring-end
     occurring-requires
-    add-t7
     add-t6
-    cast-t11
+    add-t13
+    cast-t14
     returns)

@@ -14,7 +14,7 @@ use Rattle.tables.specs.Settings.{IsSet}
 use Rattle.bodies.specs.Cursor.{LiteralAt}
 use Rattle.bodies.proofs.CursorLaws.{literal-inside, literal-wide}
 use Rattle.bodies.proofs.MultipleLaws.{factor-word}
-use Rattle.leaveoff.proofs.ResultLaws.{factors-below, none-below, one-more, all-below}
+use Rattle.leaveoff.proofs.OccurringLaws.{factors-below, none-below, one-more, all-below}
 use Rattle.leaveoff.proofs.result.factors.Statement.{statement}
 use Rattle.leaveoff.proofs.result.factors.Tie as tie
 

@@ -6,7 +6,7 @@ use borrow.Author.Needs.{needs}
 use Rattle.rules.specs.Calls.{words}
 use Rattle.bodies.specs.Cursor.{SomeLiteral}
 use Rattle.bodies.proofs.ScanLaws.{Scanned, scan-start, scan-here, scan-step, scan-over}
-use Rattle.leaveoff.proofs.ResultLaws.{Occurring, none-occur, more-occur, settings-found}
+use Rattle.leaveoff.proofs.OccurringLaws.{Occurring, none-occur, more-occur, settings-found}
 use Rattle.leaveoff.proofs.result.occurring.Statement.{statement}
 use Rattle.leaveoff.proofs.result.occurring.Tie as tie
 

@@ -11,7 +11,8 @@ use Rattle.rules.specs.Answer.{table-answer}
 use Rattle.rules.specs.Calls.{words}
 use Rattle.leaveoff.specs.Outcome.{answer-of}
 use Rattle.leaveoff.specs.Result.{Held}
-use Rattle.leaveoff.proofs.ResultLaws.{answer-words, table-inside, room-inside, in-room, zeros-after}
+use Rattle.leaveoff.proofs.ResultLaws.{answer-words}
+use Rattle.leaveoff.proofs.ResultBytes.{table-inside, room-inside, in-room, zeros-after}
 use Rattle.leaveoff.proofs.result.result.Statement.{statement}
 use Rattle.leaveoff.proofs.result.result.Tie as tie
 

@@ -1,7 +1,7 @@
 -- `result::with_factor` meets its contract: a set stays as it is, or v is joined to it.
 -- Assumes nothing.
 use borrow.Author.Needs.{needs}
-use Rattle.leaveoff.proofs.ResultLaws.{without-factor, with-one}
+use Rattle.leaveoff.proofs.OccurringLaws.{without-factor, with-one}
 use Rattle.leaveoff.proofs.result.with_factor.Statement.{statement}
 use Rattle.leaveoff.proofs.result.with_factor.Tie as tie
 
