@@ -53,10 +53,13 @@ fn normal_form(table: &mut [Word], work: &mut [Word], chosen: &Chosen) -> Result
     })
 }
 
-/// 2. Common factor.
+/// 2. Common factor. With D = 1 the table stays as it is.
 fn common(table: &mut [Word], work: &mut [Word], chosen: &Chosen) -> Result<(), u8> {
     let x = chosen.setting;
     let factor = common_factor(table, chosen)?;
+    if factor == 1 {
+        return Ok(());
+    }
     if literals(table, chosen.nodes.clone()).any(|body| scaled(body, factor, x).is_over()) {
         return Err(5);
     }
