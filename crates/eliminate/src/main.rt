@@ -1,4 +1,6 @@
 // The program: eliminates the quantifiers of the table on standard input, and prints what is answered.
+#![tactic(auto)]
+
 mod report;
 
 fn main() {

@@ -1,4 +1,6 @@
 // Elimination's step tables: each step with its limits, and a round of them for each quantifier.
+#![tactic(auto)]
+
 pub mod locate;
 pub mod rebuild;
 pub mod rounds;

@@ -1,4 +1,6 @@
 // The paper's examples that are not proved of the definitions: eliminates each, and writes what is answered.
+#![tactic(auto)]
+
 ghost use Rattle.std.specs.Prelude.{◌<◌, ◌≤◌, length};
 ghost use Rattle.io.specs.Counts.{IsPrefixLen};
 

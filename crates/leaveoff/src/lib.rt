@@ -1,4 +1,6 @@
 // The calls on lent bytes: elimination, the leave-off test and matching.
+#![tactic(auto)]
+
 pub mod answer;
 pub mod eliminate;
 pub mod exports;

@@ -16,7 +16,7 @@ use Rattle.rules.specs.Eliminate.{eliminate}
 use Rattle.rules.specs.LeaveOff.{leave_off}
 use Rattle.rules.specs.Match.{holds, choice, matching}
 use Rattle.rules.specs.Answer.{occurs}
-use Rattle.rules.specs.Calls.{Outcome, eliminated, left_off, room}
+use Rattle.rules.specs.Calls.{Outcome, eliminated, left_off}
 
 -- ---- words that the laws use
 

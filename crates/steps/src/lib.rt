@@ -1,4 +1,6 @@
 // What each step makes of the chosen quantifier, and of what stands around it.
+#![tactic(auto)]
+
 pub mod around;
 pub mod blocks;
 pub mod disjunct;

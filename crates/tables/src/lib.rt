@@ -1,4 +1,6 @@
 // A rule's table in lent bytes.
+#![tactic(auto)]
+
 pub mod check;
 pub mod quantifiers;
 pub mod reading;

@@ -1,4 +1,6 @@
 // Numbers and tables as text in lent bytes.
+#![tactic(auto)]
+
 pub mod decimal;
 pub mod lines;
 mod put;

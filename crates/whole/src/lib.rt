@@ -1,4 +1,6 @@
 // Whole numbers: the laws of specs/ and proofs/, and the two functions that the steps call.
+#![tactic(auto)]
+
 ghost use Rattle.whole.specs.Multiples.{GreatestCommonDivisor};
 ghost use Rattle.whole.specs.Bounded.{BoundedMultiple};
 

@@ -44,123 +44,123 @@ calls = (
 )
 
 -- the bytes, from where the nodes are due
-abbrev bytes : (c : lts.Else5 calls reads.Pre reads.Post) → List ℕ
-bytes c = c.before.before.before.before.before.before.before.before.args.t.now
+abbrev bytes : (c : lts.Else-size-n calls reads.Pre reads.Post) → List ℕ
+bytes c = c.args.t.now
 
 -- and how many are due
-abbrev due : (c : lts.Else5 calls reads.Pre reads.Post) → ℕ
-due c = c.before.before.natural.result
+abbrev due : (c : lts.Else-size-n calls reads.Pre reads.Post) → ℕ
+due c = c.natural-n.result
 
 -- the tests of the first word are passed
-sized : (c : lts.Else5 calls reads.Pre reads.Post) → Sized (bytes c) (due c)
+sized : (c : lts.Else-size-n calls reads.Pre reads.Post) → Sized (bytes c) (due c)
 sized c =
-    let size = c.before.before.before.before.before.count.ensures in
+    let size = c.count-size.ensures in
     record {
-      whole = omega (arith, c.before.before.before.before.before.before.if1.false);
-      first = c.before.before.natural.ensures.1;
+      whole = omega (arith, c.if-t-ne0.false);
+      first = c.natural-n.ensures.1;
       some = omega arith;
       inside = omega (arith, size);
       most = omega (arith, size);
     }
 
 -- the nodes are read
-nodes_of : (c : lts.After-enum-told calls reads.Pre reads.Post)
-    → let d = c.before.before.before in
+nodes_of : (c : lts.In-Table calls reads.Pre reads.Post)
+    → let d = c.before.before in
     NodesRead (bytes d) (due d)
 nodes_of c =
-    nodes_read _ _ _ (sized c.before.before.before) c.enum_told.given.1 c.before.before.nodes.ensures
+    nodes_read _ _ _ (sized c.before.before) c.in-Table.is c.nodes-read.ensures
 
-returns : tie.Need-returns
-returns c = verdict_odd _ (omega (arith, c.if1.true))
+returns : tie.Need-returns-then-t-ne0
+returns c = verdict_odd _ (omega (arith, c.if-t-ne0.true))
 
-count-requires : tie.Need-count-requires
+count-requires : tie.Need-count-size-requires
 count-requires c κs = search rules
 
-returns-2 : tie.Need-returns-2
-returns-2 c = verdict_size _ (omega arith) (inl (sym c.before.count.ensures ∙ c.if2.true))
+returns-2 : tie.Need-returns-then-size-eq0
+returns-2 c = verdict_size _ (omega arith) (inl (sym c.count-size.ensures ∙ c.if-size-eq0.true))
 
-returns-3 : tie.Need-returns-3
-returns-3 c = verdict_size _ (omega arith) (inr (omega (arith, c.before.before.count.ensures, c.if3.true)))
+returns-3 : tie.Need-returns-then-size-gt16384
+returns-3 c = verdict_size _ (omega arith) (inr (omega (arith, c.count-size.ensures, c.if-size-gt16384.true)))
 
-natural-requires : tie.Need-natural-requires
-natural-requires c κs = omega (arith, c.before.before.count.ensures)
+natural-requires : tie.Need-natural-n-requires
+natural-requires c κs = omega (arith, c.count-size.ensures)
 
-returns-4 : tie.Need-returns-4
+returns-4 : tie.Need-returns-then-n-lt1
 returns-4 c =
-    let found = c.before.natural in
-    let size = c.before.before.before.before.count.ensures in
-    verdict_count _ found.result (omega arith) found.ensures.1 (omega (arith, size)) (inl c.if4.true)
+    let found = c.natural-n in
+    let size = c.count-size.ensures in
+    verdict_count _ found.result (omega arith) found.ensures.1 (omega (arith, size)) (inl c.if-n-lt1.true)
 
-returns-5 : tie.Need-returns-5
+returns-5 : tie.Need-returns-then-size-n
 returns-5 c =
-    let found = c.before.before.natural in
-    let size = c.before.before.before.before.before.count.ensures in
+    let found = c.natural-n in
+    let size = c.count-size.ensures in
     verdict_count _ found.result (omega arith) found.ensures.1 (omega (arith, size))
-    (inr (omega (arith, size, c.if5.true)))
+    (inr (omega (arith, size, c.if-size-n.true)))
 
-nodes-requires : tie.Need-nodes-requires
+nodes-requires : tie.Need-nodes-read-requires
 nodes-requires c κs = let s = sized c in (omega (arith, s.inside), s.most)
 
-enum_told : tie.Need-enum-told
+enum_told : tie.Need-enum_told-1
 enum_told c = search rules
 
-enum-told-2 : tie.Need-enum-told-2
+enum-told-2 : tie.Need-enum_told-in_default
 enum-told-2 c = search rules
 
-returns-6 : tie.Need-returns-6
+returns-6 : tie.Need-returns-in_default
 returns-6 c =
-    let read = c.before.before in
-    verdict_nodes _ _ _ (sized read.before) c.enum-told2.given.1 read.nodes.ensures
+    let read = c.before in
+    verdict_nodes _ _ _ (sized read.before) c.in_default.is read.nodes-read.ensures
 
-add-from : tie.Need-overflow-add-from
+add-from : tie.Need-overflow_add-from
 add-from c = let s = (nodes_of c).sized in omega (arith, s.inside, s.most)
 
-mul-from : tie.Need-overflow-mul-from
+mul-from : tie.Need-overflow_mul-from
 mul-from c = let s = (nodes_of c).sized in omega (arith, s.inside, s.most)
 
-sub-walk : tie.Need-overflow-sub-walk
-sub-walk c = omega (arith, (nodes_of c).sized.inside, words_length (bytes c.before.before.before))
+sub-walk : tie.Need-slice_bounds-walk-count
+sub-walk c = omega (arith, (nodes_of c).sized.inside, words_length (bytes c.before.before))
 
-part-walk-start : tie.Need-slice-bounds-walk-start
-part-walk-start c = omega (arith, (nodes_of c).sized.inside, words_length (bytes c.before.before.before))
+part-walk-start : tie.Need-slice_bounds-walk-start
+part-walk-start c = omega (arith, (nodes_of c).sized.inside, words_length (bytes c.before.before))
 
-part-walk-end : tie.Need-slice-bounds-walk-end
+part-walk-end : tie.Need-slice_bounds-walk-end
 part-walk-end c = search rules
 
-walk-requires : tie.Need-walk-requires
+walk-requires : tie.Need-walk-end-requires
 walk-requires c κs =
-    let d = c.before.before.before.before in
+    let d = c.before.before.before in
     let read = nodes_of c.before in (
       nodes_listed read,
       omega (arith, read.sized.inside, read.sized.most),
       omega (arith, read.sized.most, part_long (bytes d) (due d + 1)),
     )
 
-enum-known-end : tie.Need-enum-known-end
+enum-known-end : tie.Need-enum_known-end
 enum-known-end c = search rules
 
-enum-told-3 : tie.Need-enum-told-3
+enum-told-3 : tie.Need-enum_told-in_default-end
 enum-told-3 c = search rules
 
-returns-7 : tie.Need-returns-7
+returns-7 : tie.Need-returns-in_default-end
 returns-7 c =
-    let walked = c.before.before in
-    verdict_broken (nodes_of walked.before.before) c.enum-told3.given.1 walked.walk.ensures
+    let walked = c.before in
+    verdict_broken (nodes_of walked.before.before) c.in_default-end.is walked.walk-end.ensures
 
-returns-8 : tie.Need-returns-8
+returns-8 : tie.Need-returns-then-m-n
 returns-8 c =
-    let walked = c.before.before.before.before in
+    let walked = c.before.before in
     let read = nodes_of walked.before.before in
-    verdict_left read _ _ c.before.before.end.given.1 walked.walk.ensures (omega (arith, c.if6.true))
+    verdict_left read _ _ c.in-Ends.is walked.walk-end.ensures (omega (arith, c.if-m-n.true))
 
-returns-9 : tie.Need-returns-9
+returns-9 : tie.Need-returns
 returns-9 c =
-    let walked = c.before.before.before.before in
+    let walked = c.before.before in
     let read = nodes_of walked.before.before in
-    verdict_rule read _ _ c.before.before.end.given.1 walked.walk.ensures (omega (arith, c.if6.false))
+    verdict_rule read _ _ c.in-Ends.is walked.walk-end.ensures (omega (arith, c.if-m-n.false))
 
-pub check-spec : {M : Type 1} → statement M
-check-spec =
+pub check_spec : {M : Type 1} → statement M
+check_spec =
     tie.close
     (tie.spec
     returns

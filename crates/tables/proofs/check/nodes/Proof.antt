@@ -26,129 +26,129 @@ use Rattle.tables.proofs.ReadingLaws.{node_whole, node_refused}
 use Rattle.tables.proofs.check.nodes.Statement.{statement}
 use Rattle.tables.proofs.check.nodes.Tie as tie
 
-abbrev invariant-loop : tie.invariant-loop
+abbrev invariant-loop : tie.invariant-loop-i
 invariant-loop t n i₀ place₀ i place =
     (i ≤ n) × (place ≤ length (words t)) × NodeDue (words t) n i place
 
-abbrev decreases-loop : tie.decreases-loop
+abbrev decreases-loop : tie.decreases-loop-i
 decreases-loop t n i₀ place₀ i place = n - i
 
 -- the ways back: from the entry to the loop, and to the start; from the node to its entry
-abbrev turn : tie.After-natural invariant-loop decreases-loop → tie.At-loop invariant-loop decreases-loop
+abbrev turn : tie.After-natural invariant-loop decreases-loop → tie.At-loop-i invariant-loop decreases-loop
 turn c = c.before.before
 
-abbrev start : tie.At-loop invariant-loop decreases-loop → tie.Start invariant-loop decreases-loop
+abbrev start : tie.At-loop-i invariant-loop decreases-loop → tie.Start invariant-loop decreases-loop
 start c = c.before.before
 
-abbrev entry : tie.After-read-node invariant-loop decreases-loop → tie.After-natural invariant-loop decreases-loop
+abbrev entry : tie.After-read_node-reading invariant-loop decreases-loop → tie.After-natural invariant-loop decreases-loop
 entry c = c.before.before.before
 
 -- the entry is read
 entry_read : (c : tie.After-natural invariant-loop decreases-loop)
     → let here = turn c in
     let a = (start here).args in
-    EntryRead (words a.t.now) a.n here.loop.i here.loop.place c.natural.result
+    EntryRead (words a.t.now) a.n here.loop-i.i here.loop-i.place c.natural.result
 entry_read c = record {
-  node = (turn c).loop.invariant.2;
-  some = c.before.loop-test.true;
+  node = (turn c).loop-i.invariant.2;
+  some = c.loop-i-test.true;
   entry = c.natural.ensures.1;
 }
 
 -- and then the node
-body-read : (c : tie.After-read-node invariant-loop decreases-loop)
+body-read : (c : tie.After-read_node-reading invariant-loop decreases-loop)
     → let here = turn (entry c) in
     let a = (start here).args in
-    BodyRead (words a.t.now) a.n here.loop.i here.loop.place (entry c).natural.result
-    (part a.t.now here.loop.place)
+    BodyRead (words a.t.now) a.n here.loop-i.i here.loop-i.place (entry c).natural.result
+    (part a.t.now here.loop-i.place)
 body-read c =
     let here = turn (entry c) in
     record {
       read = entry_read (entry c);
-      same = c.before.before.if1.false;
-      low = omega (arith, (start here).pre.1, here.loop.inv.1);
-      at = words_from (start here).args.t.now here.loop.place;
+      same = c.if-natural-place.false;
+      low = omega (arith, (start here).requires.1, here.loop-i.invariant.1);
+      at = words_from (start here).args.t.now here.loop-i.place;
     }
 
-add-place : tie.Need-overflow-add-place invariant-loop decreases-loop
-add-place c = omega (arith, words_length c.before.args.t.now)
+add-place : tie.Need-overflow_add-place invariant-loop decreases-loop
+add-place c = omega (arith, words_length c.args.t.now)
 
-loop-holds : tie.Need-loop-init invariant-loop decreases-loop
+loop-holds : tie.Need-loop-i-init invariant-loop decreases-loop
 loop-holds c =
-    let pre = c.before.requires in
+    let pre = c.requires in
     (omega arith, pre.0, record { inside = omega (arith, pre.0); carries = carries_itself _ })
 
-add-natural : tie.Need-overflow-add-natural invariant-loop decreases-loop
+add-natural : tie.Need-overflow_add-i invariant-loop decreases-loop
 add-natural c =
-    let pre = c.before.before.before.requires in
-    omega (arith, pre.0, pre.1, c.before.loop.invariant.0)
+    let pre = c.requires in
+    omega (arith, pre.0, pre.1, c.loop-i.invariant.0)
 
 natural-requires : tie.Need-natural-requires invariant-loop decreases-loop
-natural-requires c κs = omega (arith, c.before.before.before.requires.0, c.before.loop.invariant.0)
+natural-requires c κs = omega (arith, c.requires.0, c.loop-i.invariant.0)
 
-returns : tie.Need-returns invariant-loop decreases-loop
-returns c = entry_refused (entry_read c.before) c.if1.true
+returns : tie.Need-returns-then-natural-place invariant-loop decreases-loop
+returns c = entry_refused (entry_read c.before) c.if-natural-place.true
 
-mul-from : tie.Need-overflow-mul-from invariant-loop decreases-loop
+mul-from : tie.Need-overflow_mul-from invariant-loop decreases-loop
 mul-from c =
     let begun = start (turn c.before) in
-    omega (arith, words_length begun.args.t.now, begun.pre.1)
+    omega (arith, words_length begun.args.t.now, begun.requires.1)
 
-sub-read-node : tie.Need-overflow-sub-read-node invariant-loop decreases-loop
+sub-read-node : tie.Need-slice_bounds-read_node-count invariant-loop decreases-loop
 sub-read-node c = omega (arith, words_length (start (turn c.before)).args.t.now)
 
-part-read-node-start : tie.Need-slice-bounds-read-node-start invariant-loop decreases-loop
+part-read-node-start : tie.Need-slice_bounds-read_node-start invariant-loop decreases-loop
 part-read-node-start c = omega (arith, words_length (start (turn c.before)).args.t.now)
 
-part-read-node-end : tie.Need-slice-bounds-read-node-end invariant-loop decreases-loop
+part-read-node-end : tie.Need-slice_bounds-read_node-end invariant-loop decreases-loop
 part-read-node-end c = search rules
 
-read-node-requires : tie.Need-read-node-requires invariant-loop decreases-loop
-read-node-requires c κs = omega (arith, (start (turn c.before.before)).pre.1)
+read-node-requires : tie.Need-read_node-reading-requires invariant-loop decreases-loop
+read-node-requires c κs = omega (arith, (start (turn c.before.before)).requires.1)
 
-enum-known-reading : tie.Need-enum-known-reading invariant-loop decreases-loop
+enum-known-reading : tie.Need-enum_known-reading invariant-loop decreases-loop
 enum-known-reading c = search rules
 
-enum_told : tie.Need-enum-told invariant-loop decreases-loop
+enum_told : tie.Need-enum_told-1 invariant-loop decreases-loop
 enum_told c = search rules
 
 number-requires : tie.Need-number-requires invariant-loop decreases-loop
 number-requires c κs = search rules
 
-returns-2 : tie.Need-returns-2 invariant-loop decreases-loop
+returns-2 : tie.Need-returns-in_default invariant-loop decreases-loop
 returns-2 c =
-    let told = c.before.enum_told.given.1 in
-    let read = c.before.before.before in
+    let told = c.in_default.is in
+    let read = c.before.before in
     subst (Judged length _) (sym (ap Not (c.number.ensures ∙ ap answer_number told)))
-    (body_refused (body-read read) _ (node_refused _ _ told read.read-node.ensures _))
+    (body_refused (body-read read) _ (node_refused _ _ told read.read_node-reading.ensures _))
 
-add-i : tie.Need-overflow-add-i invariant-loop decreases-loop
+add-i : tie.Need-overflow_add-i-in-loop-i invariant-loop decreases-loop
 add-i c = omega arith
 
-loop-less : tie.Need-loop-smaller invariant-loop decreases-loop
+loop-less : tie.Need-loop-i-smaller invariant-loop decreases-loop
 loop-less c = omega arith
 
-loop-again : tie.Need-loop-preserved invariant-loop decreases-loop
+loop-again : tie.Need-loop-i-preserved invariant-loop decreases-loop
 loop-again c =
-    let read = c.before.before.before in
-    let inv = (turn (entry read)).loop.inv in
-    let it = node_whole _ _ c.before.reading.given.1 read.read-node.ensures (turn (entry read)).loop.i in
+    let read = c.before in
+    let inv = (turn (entry read)).loop-i.invariant in
+    let it = node_whole _ _ c.in-Whole.is read.read_node-reading.ensures (turn (entry read)).loop-i.i in
     (omega arith, still_inside (body-read read) inv.1 it, node_passed (body-read read) it)
 
 count-requires : tie.Need-count-requires invariant-loop decreases-loop
 count-requires c κs = search rules
 
-returns-3 : tie.Need-returns-3 invariant-loop decreases-loop
+returns-3 : tie.Need-returns-then-place-count invariant-loop decreases-loop
 returns-3 c =
-    let inv = c.before.before.before.loop.invariant in
-    end_refused inv.2 (omega arith) inv.1 (omega (arith, c.if2.true, c.before.count.ensures))
+    let inv = c.loop-i.invariant in
+    end_refused inv.2 (omega arith) inv.1 (omega (arith, c.if-place-count.true, c.count.ensures))
 
-returns-4 : tie.Need-returns-4 invariant-loop decreases-loop
+returns-4 : tie.Need-returns invariant-loop decreases-loop
 returns-4 c =
-    let inv = c.before.before.before.loop.invariant in
-    all_passed inv.2 (omega arith) (omega (arith, c.if2.false, c.before.count.ensures))
+    let inv = c.loop-i.invariant in
+    all_passed inv.2 (omega arith) (omega (arith, c.if-place-count.false, c.count.ensures))
 
-pub nodes-spec : {M : Type 1} → statement M
-nodes-spec =
+pub nodes_spec : {M : Type 1} → statement M
+nodes_spec =
     tie.close
     (tie.spec
     invariant-loop

@@ -2,11 +2,7 @@
 -- Assumes nothing.
 use mathlib.Core.Path.{sym}
 use Rattle.tables.proofs.WordLaws.{words_length}
-use Rattle.tables.proofs.words.count.Statement.{statement}
-use Rattle.tables.proofs.words.count.Tie as tie
+use Rattle.tables.proofs.words.count.Goals as goal
 
-returns : tie.Need-returns
+pub returns : goal.returns
 returns c = sym (words_length _)
-
-pub count_spec : {M : Type 1} → statement M
-count_spec = tie.close (tie.spec returns)
