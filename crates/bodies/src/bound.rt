@@ -8,7 +8,7 @@ use tables::words;
 
 // "A literal 0 < x+r gives the bound −r": where the literal stands, and the bits of its constant, by which most bounds
 // are told apart without a look at the table.
-#[derive(Drop)]
+#[derive(Clone, Copy)]
 pub struct Bound {
     pub place: u32,
     pub constant: u32,

@@ -11,7 +11,7 @@ ghost use Rattle.bodies.specs.Span.{EndsWith};
 
 use tables::{check, reading, sides, words};
 
-#[derive(Drop)]
+#[derive(Clone, Copy)]
 pub struct Extent {
     pub nodes: usize,
     pub words: usize,

@@ -12,7 +12,7 @@ use crate::front;
 
 // How many words the nodes that are built have, and how many nodes. By value: an earlier state, taken up again, is what
 // was built then.
-#[derive(Drop)]
+#[derive(Clone, Copy)]
 pub struct State {
     pub used: usize,
     pub nodes: usize,

@@ -8,7 +8,7 @@ use tables::quantifiers::Found;
 use tables::{quantifiers, words};
 
 // Its number and its place, whether it is a for some, its setting, and how many words its body has.
-#[derive(Drop)]
+#[derive(Clone, Copy)]
 pub struct Quantified {
     pub node: usize,
     pub place: usize,
@@ -17,7 +17,7 @@ pub struct Quantified {
     pub end: usize,
 }
 
-#[derive(Drop)]
+#[derive(Clone, Copy)]
 pub enum Located {
     Nowhere,
     There(Quantified),

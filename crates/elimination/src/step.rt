@@ -122,7 +122,7 @@ pub fn common_factor(table: &mut [u8], work: &mut [u8], room: usize, c: Quantifi
 }
 
 // What step 3 comes to: a refusal by the room, or what is made.
-#[derive(Drop)]
+#[derive(Clone, Copy)]
 pub enum Plan {
     TooLong,
     Make(Step),

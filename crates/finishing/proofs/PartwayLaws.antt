@@ -128,7 +128,7 @@ module _ {s : Source} {ws ts vs : List ℤ} {i to m k from place : ℕ} {ds : Li
         → Placeable ws from shift vs j place next
     unfolding AllGood AllNear total
     next_placeable j shift nth shifted same =
-        let (in_all, in_words_lem) = sums (next ∷ rest) left_is in
+        let (in_all, in_words) = sums (next ∷ rest) left_is in
         let free = p.free in
         record {
           number = number s k;
@@ -139,8 +139,8 @@ module _ {s : Source} {ws ts vs : List ℤ} {i to m k from place : ℕ} {ds : Li
           near = (subst AllNear left_is p.near).0;
           free = record {
             entries = omega (arith, nth, free.entries, p.all, p.there);
-            bodies = omega (arith, free.bodies, same, p.there, in_words_lem, width_is next);
-            most = omega (arith, free.most, p.there, in_words_lem, width_is next);
+            bodies = omega (arith, free.bodies, same, p.there, in_words, width_is next);
+            most = omega (arith, free.most, p.there, in_words, width_is next);
           };
         }
 
@@ -148,7 +148,7 @@ module _ {s : Source} {ws ts vs : List ℤ} {i to m k from place : ℕ} {ds : Li
         → Partway s ws ts xs i to m (k + 1) (from + u) (place + u) ds
     unfolding AllGood AllNear total
     one_placed xs j u nth placed wide =
-        let (in_all, in_words_lem) = sums (next ∷ rest) left_is in
+        let (in_all, in_words) = sums (next ∷ rest) left_is in
         let one = next ∷ [] in
         let long : length (body (number s k) next) ≡ u =
         omega (arith, length_body (number s k) next, width_is next, wide) in

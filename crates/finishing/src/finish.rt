@@ -1,7 +1,7 @@
 // The nodes are copied one by one: each gets its entry, and a right child, so far given by its distance, its number.
 ghost use Rattle.std.specs.Prelude.{◌≡◌, [], ◌∷◌, ◌++◌, ◌+◌, ◌≤◌, length, take, drop};
 ghost use Rattle.rules.specs.Rule.{Rule};
-ghost use Rattle.rules.specs.Table.{Node, width as width_of_lem};
+ghost use Rattle.rules.specs.Table.{Node, width as width_of};
 ghost use Rattle.rules.specs.Calls.{words as words_of};
 ghost use Rattle.tables.specs.Standing.{TableAt};
 ghost use Rattle.finishing.specs.Placing.{Run};
@@ -29,7 +29,7 @@ pub fn node(work: &[u8], from: usize, shift: usize, table: &mut [u8], i: usize, 
     requires { SomePlaceable (words_of work.now) from shift (words_of table.old) i to }
     ensures { (d : Node)
         → Placeable (words_of work.now) from shift (words_of table.old) i to d
-        → Run (words_of table.old) (words_of table.new) i to (d ∷ []) × (result ≡ width_of_lem d) }
+        → Run (words_of table.old) (words_of table.new) i to (d ∷ []) × (result ≡ width_of d) }
 {
     let kind = words::natural(work, from);
     let width = reading::width(kind);

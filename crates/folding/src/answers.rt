@@ -12,7 +12,7 @@ use builder::push;
 use builder::push::State;
 
 // A truth value, of which nothing is put; or the state with the rule's nodes in front.
-#[derive(Drop)]
+#[derive(Clone, Copy)]
 pub enum Folded {
     Known(bool),
     Pushed(State),

@@ -9,7 +9,7 @@ use crate::masks;
 
 // Bit k of `yes` says that a rule folds to true at the k-th value, bit k of `no` that it folds to false. Where neither
 // has the bit, the rule stays open.
-#[derive(Drop)]
+#[derive(Clone, Copy)]
 pub struct Judged {
     pub yes: u64,
     pub no: u64,

@@ -5,7 +5,7 @@ ghost use Rattle.leaveoff.specs.Outcome.{answer_of, verdict_alone, packed, Fits}
 
 // Its number, 0 where the call answered; a verdict (1 true, 2 false, 3 open); the words of the result; and the settings
 // that occur in it, setting v as bit v - 1.
-#[derive(Drop)]
+#[derive(Clone, Copy)]
 pub struct Answer {
     pub number: u32,
     pub verdict: u32,

@@ -130,6 +130,6 @@ holds_is {ws} {n} {t} {s} l p q starts us vs same z f e tests =
     let m = literal_marked t l p q in
     tests t m
     ∙ ap (passes t)
-    (to_z-of_z (sfits_of {z = z} f) ∙ e
+    (to_z-of_z {w = w64} (sfits_of {z = z} f) ∙ e
     ∙ ap (λ at. value (take 7 (drop at ws)) (choice us)) (starts t m.same_kind)
     ∙ ap₂ (λ l vs. value l (choice vs)) (literal_sum t l) same)

@@ -21,7 +21,7 @@ pub wide_fits : {z : ℤ} → SFits w32 z → SFits w64 (to_z w32 (of_z w32 z))
 wide_fits f = rw (to_z-of_z f) (sfits_widen tt f)
 
 pub wide_is : {z : ℤ} → SFits w32 z → to_z w64 (of_z w64 (to_z w32 (of_z w32 z))) ≡ z
-wide_is f = rw (to_z-of_z f) (to_z-of_z (sfits_widen tt f))
+wide_is f = rw (to_z-of_z f) (to_z-of_z {w = w64} (sfits_widen tt f))
 
 -- ---- sizes
 

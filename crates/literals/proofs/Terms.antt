@@ -71,7 +71,7 @@ module _ (ws : List ℤ) (at : ℕ) where
       → r ≡ word v *ℤ to_z w32 (of_z w32 s) +ℤ to_z w64 (of_z w64 x) → x ≡ y → r ≡ word v *ℤ s +ℤ y
   chained {s} {x} v f g e p =
       e ∙ ap (λ t. word v *ℤ t +ℤ to_z w64 (of_z w64 x)) (to_z-of_z f)
-      ∙ ap (λ t. word v *ℤ s +ℤ t) (to_z-of_z (sfits_of {z = x} g) ∙ p)
+      ∙ ap (λ t. word v *ℤ s +ℤ t) (to_z-of_z {w = w64} (sfits_of {z = x} g) ∙ p)
 
   pub value_is : (s1 s2 s3 s4 s5 s6 : ℤ) {r : ℤ} → at + 7 ≤ length ws
       → mag r < 2 ^ hbits w64 → nat_abs r ≤ 7 * most_term

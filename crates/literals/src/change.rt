@@ -16,7 +16,7 @@ use tables::words;
 
 // Nothing; scaled to the common factor D for the setting x; a sum put in for x, in the far-left body or in the full
 // one.
-#[derive(Drop)]
+#[derive(Clone, Copy)]
 pub enum Change {
     Same,
     Scaled(usize, usize),
@@ -25,7 +25,7 @@ pub enum Change {
 }
 
 // The truth value that a change makes of a literal, or none.
-#[derive(Drop)]
+#[derive(Clone, Copy)]
 pub enum Settled {
     Yes(bool),
     No,

@@ -1,7 +1,7 @@
 // Whether a literal of a table holds at six values.
 ghost use Rattle.std.specs.Prelude.{◌≡◌, [], ◌∷◌, ℕ, ◌+◌, ◌-◌, ◌*◌, ◌^◌, ◌<◌, ◌≤◌, T, pos, nat_abs, ◌+ℤ◌, ◌*ℤ◌, length, get_or, take, drop};
 ghost use Rattle.whole.specs.Divides.{divides as divides_test};
-ghost use Rattle.rules.specs.Sum.{Sum, limit, all_within, value as value_of_lem};
+ghost use Rattle.rules.specs.Sum.{Sum, limit, all_within, value as value_of};
 ghost use Rattle.rules.specs.Rule.{Test, passes as passes_test};
 ghost use Rattle.rules.specs.Match.{most_value, choice};
 ghost use Rattle.rules.specs.Calls.{words as words_of};
@@ -27,7 +27,7 @@ fn plus(b: &[u8], at: usize, v: usize, s: i32, x: i64) -> i64
 pub fn value(b: &[u8], at: usize, s1: i32, s2: i32, s3: i32, s4: i32, s5: i32, s6: i32) -> i64
     requires at_in_bounds { at + 7 ≤ length (words_of b.now) }
     requires t { T (all_within most_value (s1 ∷ s2 ∷ s3 ∷ s4 ∷ s5 ∷ s6 ∷ [])) }
-    ensures { (result ≡ value_of_lem (take 7 (drop at (words_of b.now)))
+    ensures { (result ≡ value_of (take 7 (drop at (words_of b.now)))
         (choice (s1 ∷ s2 ∷ s3 ∷ s4 ∷ s5 ∷ s6 ∷ []))) × (nat_abs result < 2 ^ 63) }
 {
     let x6 = plus(b, at, 6, s6, 0);
@@ -78,7 +78,7 @@ pub fn start(kind: usize) -> usize
 pub fn holds(b: &[u8], s1: i32, s2: i32, s3: i32, s4: i32, s5: i32, s6: i32) -> bool
     requires { SomeLiteral (words_of b.now) × T (all_within most_value (s1 ∷ s2 ∷ s3 ∷ s4 ∷ s5 ∷ s6 ∷ [])) }
     ensures { (n : ℕ) (t : Test) (s : Sum) → LiteralAt (words_of b.now) n t s
-        → result ≡ passes_test t (value_of_lem s (choice (s1 ∷ s2 ∷ s3 ∷ s4 ∷ s5 ∷ s6 ∷ []))) }
+        → result ≡ passes_test t (value_of s (choice (s1 ∷ s2 ∷ s3 ∷ s4 ∷ s5 ∷ s6 ∷ []))) }
 {
     let kind = words::natural(b, 0);
     let k = words::natural(b, 1);

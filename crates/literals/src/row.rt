@@ -12,7 +12,7 @@ use tables::words;
 
 // What becomes of every word. Times(x, sign, m): that of x is the sign, any other is taken m times. Plus(x, f): that of
 // x is 0, any other stays, and then f times the word of another sum is added.
-#[derive(Drop)]
+#[derive(Clone, Copy)]
 pub enum Row {
     Times(usize, i64, usize),
     Plus(usize, i64),

@@ -13,7 +13,7 @@ use tables::check::Checked;
 use tables::quantifiers::Found;
 use tables::{check, quantifiers};
 
-#[derive(Drop)]
+#[derive(Clone, Copy)]
 pub enum Matched {
     Refused(u32),
     Holds,

@@ -22,7 +22,7 @@ use walks::{fold, normal, put};
 
 // "A for-all is first replaced by not, for some, not"; normal form; the common factor D; the disjunction over the
 // period P, of a body with so many bounds; the truth value that it is known to fold to.
-#[derive(Drop)]
+#[derive(Clone, Copy)]
 pub enum Step {
     ForAll,
     NormalForm,

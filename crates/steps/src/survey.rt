@@ -20,7 +20,7 @@ use judging::answers::Judged;
 use judging::judge;
 
 // One folds to true; or none does, and so many stay open.
-#[derive(Drop)]
+#[derive(Clone, Copy)]
 pub enum Survey {
     SomeTrue,
     NoneTrue(usize),

@@ -8,14 +8,14 @@ use crate::reading::Reading;
 use crate::{reading, words};
 
 // A table of so many nodes, or the number that refuses it.
-#[derive(Drop)]
+#[derive(Clone, Copy)]
 pub enum Checked {
     Table(usize),
     Not(u32),
 }
 
 // The tree that starts some bodies takes so many nodes and so many words; or there is none.
-#[derive(Drop)]
+#[derive(Clone, Copy)]
 pub enum Tree {
     Ends(usize, usize),
     Broken,

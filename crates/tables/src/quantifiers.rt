@@ -9,7 +9,7 @@ ghost use Rattle.tables.specs.Last.{binds as binds_kind, LastAt};
 use crate::words;
 
 // Its number and its place; or there is none.
-#[derive(Drop)]
+#[derive(Clone, Copy)]
 pub enum Found {
     Nothing,
     At(usize, usize),

@@ -8,13 +8,13 @@ ghost use Rattle.tables.specs.Reads.{SumAt, NumberAt, DividedAt, FieldsAt, NodeA
 use crate::words;
 
 // "Reading a table answers a node with the next place, or a refusal".
-#[derive(Drop)]
+#[derive(Clone, Copy)]
 pub enum Reading {
     Whole(Node, usize),
     Refused(u32),
 }
 
-#[derive(Drop)]
+#[derive(Clone, Copy)]
 pub struct Node {
     pub kind: usize,
 }

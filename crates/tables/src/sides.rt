@@ -6,7 +6,7 @@ ghost use Rattle.tables.specs.Standing.{Stands, Few, StandingJoin, RightOf};
 use crate::words;
 
 // The side's node and place, and the bytes to leave out of the entries and of the bodies before its own.
-#[derive(Drop)]
+#[derive(Clone, Copy)]
 pub struct Side {
     pub node: usize,
     pub place: usize,

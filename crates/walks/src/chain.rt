@@ -13,7 +13,7 @@ use folding::answers::Folded;
 use tables::words;
 
 // How many nodes such a chain has, and how many words.
-#[derive(Drop)]
+#[derive(Clone, Copy)]
 pub struct Links {
     pub nodes: usize,
     pub words: usize,

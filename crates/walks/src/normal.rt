@@ -16,7 +16,7 @@ use folding::answers::Folded;
 use tables::{sides, words};
 
 // A number of the normal form passes the limit; or it is built.
-#[derive(Drop)]
+#[derive(Clone, Copy)]
 pub enum Normal {
     OverLimit,
     Made(Folded),

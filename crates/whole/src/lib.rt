@@ -19,7 +19,7 @@ pub fn gcd(a: u32, b: u32) -> u32
 }
 
 // A least common multiple, or that it is over a limit.
-#[derive(Drop)]
+#[derive(Clone, Copy)]
 pub enum Multiple {
     Least(u32),
     OverLimit,

@@ -191,7 +191,7 @@ module _ {M : Type 1} {𝓤 : Ura M} (𝓛 : Logic 𝓤) (mem : Memory → SProp
   next-less : (t i : ℕ) → Facts t i → i < k → k - (i + 1) < t
   next-less t i f h = omega (arith, f.1, h)
 
-  module _ (𝓣 : Tables 𝓤 H) (fm : FmC 𝓤 H 𝓛.laws 𝓣.C) (known_at_lem : Triple 𝓤 (𝓣.C #bodies·bound·at) At)
+  module _ (𝓣 : Tables 𝓤 H) (fm : FmC 𝓤 H 𝓛.laws 𝓣.C) (known_at : Triple 𝓤 (𝓣.C #bodies·bound·at) At)
       (known-differ : Triple 𝓤 (𝓣.C #bodies·bound·differ) Differ) where
     module _ (l₀ l₁ l₂ l₃ l₄ l₅ l₆ l₇ : ℕ) where
       -- the locals: the result, `bodies`, `bounds`, `k`, `b`, `i`, the test of the loop, and what `at` answers
@@ -228,7 +228,7 @@ module _ {M : Type 1} {𝓤 : Ura M} (𝓛 : Logic 𝓤) (mem : Memory → SProp
           (goes_at i (omega (arith, f.0, k-fits)) (omega (arith, f.0, within))).prf $
           -- [what `at` asks; what bounds owns; _5 at 2; _6; _7; _2 at 5; _4; _3; _1; _0; κ₀'s token; what bodies owns
           -- at 11; …]
-          calls_at ! fm At known_at_lem (to_at i)
+          calls_at ! fm At known_at (to_at i)
           (and_then ! (cell ! 5 refl) (and_then ! (cell ! 2 refl) (no_more !))) (λ w.
           answers 𝓛 at.ended (at.clauses 𝓛 mem run) (to_at i) ! tt w (λ r. r ≡ nth-bound i) (λ r ws. id⊢ 𝓤 _)
           (λ r e is. gets ! 5 refl (typed 𝓛 r (w ∷ []) is).0 $

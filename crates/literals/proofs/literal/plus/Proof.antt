@@ -10,25 +10,25 @@ use Rattle.literals.proofs.Terms.{product_asks, sum_asks, sum_is}
 use Rattle.literals.proofs.literal.plus.Statement.{statement}
 use Rattle.literals.proofs.literal.plus.Tie as tie
 
-got : (c : tie.After-get) → SFits w32 c.get.result
-got c = sfits_of c.get.type-inv
+got : (c : tie.After-get-a) → SFits w32 c.get-a.result
+got c = sfits_of c.get-a.type_inv
 
-add-get : tie.Need-overflow-add-get
-add-get c = omega (arith, words_length c.before.args.b.now)
+add-get : tie.Need-overflow_add-at
+add-get c = omega (arith, words_length c.args.b.now)
 
-get-requires : tie.Need-get-requires
+get-requires : tie.Need-get-a-requires
 get-requires c κs = search rules
 
-cast-result : tie.Need-overflow-cast-result
+cast-result : tie.Need-overflow_cast-result
 cast-result c = wide_fits (got c)
 
-cast-result-2 : tie.Need-overflow-cast-result-2
-cast-result-2 c = wide_fits c.before.before.ranges.s
+cast-result-2 : tie.Need-overflow_cast-result-2
+cast-result-2 c = wide_fits c.ranges.s
 
-mul-result : tie.Need-overflow-mul-result
-mul-result c = product_asks (got c) c.before.before.ranges.s c.before.before.requires.2
+mul-result : tie.Need-overflow_mul-result
+mul-result c = product_asks (got c) c.ranges.s c.requires.2
 
-add-result : tie.Need-overflow-add-result
+add-result : tie.Need-overflow_add-result
 add-result c =
     let start = c.before.before in
     sum_asks (got c) start.ranges.s start.requires.2 start.ranges.x start.requires.3 start.requires.1
@@ -36,9 +36,9 @@ add-result c =
 returns : tie.Need-returns
 returns c =
     let start = c.before.before in
-    sum_is (got c) start.ranges.s start.requires.2 start.ranges.x start.requires.3 start.requires.1 c.get.ensures
+    sum_is (got c) start.ranges.s start.requires.2 start.ranges.x start.requires.3 start.requires.1 c.get-a.ensures
 
-pub plus-spec : {M : Type 1} → statement M
-plus-spec =
+pub plus_spec : {M : Type 1} → statement M
+plus_spec =
     tie.close
     (tie.spec add-get get-requires cast-result cast-result-2 mul-result add-result returns)
