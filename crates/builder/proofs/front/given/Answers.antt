@@ -1,5 +1,6 @@
 -- `front::given` meets its contract: the words are put from the last to the first.
 -- Assumes nothing.
+use mir.Syntax.{w32}
 use mathlib.Core.Path.{refl, ◌∙◌}
 use native.Mathlib.Omega.{arith}
 use mir.Facts.{to_z-of_z}
@@ -28,7 +29,7 @@ loop-i-preserved c =
       omega arith,
       omega arith,
       put.auto.out ∙ inv.2,
-      λ l b. sum_more _ _ _ l loop.i _ (omega arith) (omega arith) (to_z-of_z (sfits_of got.type_inv) ∙ got.ensures)
+      λ l b. sum_more _ _ _ l loop.i _ (omega arith) (omega arith) (to_z-of_z {w = w32} (sfits_of got.type_inv) ∙ got.ensures)
           (put.ensures.0 _ (inv.3 l b)),
     )
 
