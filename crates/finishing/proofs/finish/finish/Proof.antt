@@ -19,113 +19,113 @@ use Rattle.finishing.proofs.FinishLaws.{used_inside, first_inside, nodes_few, at
 use Rattle.finishing.proofs.finish.finish.Statement.{statement}
 use Rattle.finishing.proofs.finish.finish.Tie as tie
 
-abbrev invariant-loop : tie.invariant-loop
+abbrev invariant-loop : tie.invariant-loop-i
 invariant-loop work table₀ n i₀ from₀ to₀ table i from to =
     (length table ≡ length table₀)
     × ((ds : List Node) → Partway built (words work) (words table₀) (words table₀) 0 to₀ n i₀ from₀ to₀ ds
     → Partway built (words work) (words table₀) (words table) 0 to₀ n i from to ds)
 
-abbrev decreases-loop : tie.decreases-loop
+abbrev decreases-loop : tie.decreases-loop-i
 decreases-loop work table₀ n i₀ from₀ to₀ table i from to = n - i
 
-cast-put : tie.Need-overflow-cast-put invariant-loop decreases-loop
-cast-put c = number_fits _ (omega (arith, nodes_few c.before.before.before.requires.finishable))
+cast-put : tie.Need-overflow_cast-n invariant-loop decreases-loop
+cast-put c = number_fits _ (omega (arith, nodes_few c.requires.finishable))
 
 put-requires : tie.Need-put-requires invariant-loop decreases-loop
-put-requires c κs = first_inside c.before.before.before.requires.finishable
+put-requires c κs = first_inside c.requires.finishable
 
 count-requires : tie.Need-count-requires invariant-loop decreases-loop
 count-requires c κs = search rules
 
-sub-from : tie.Need-overflow-sub-from invariant-loop decreases-loop
+sub-from : tie.Need-overflow_sub-from invariant-loop decreases-loop
 sub-from c =
     let counted = c.before in
     let start = counted.before.before.before.before.before.before.before in
     omega (arith, counted.count.ensures, used_inside start.requires.finishable)
 
-add-to : tie.Need-overflow-add-to invariant-loop decreases-loop
+add-to : tie.Need-overflow_add-to invariant-loop decreases-loop
 add-to c =
     let start = c.before.before.before.before.before.before.before.before in
     omega (arith, nodes_few start.requires.finishable)
 
-loop-holds : tie.Need-loop-init invariant-loop decreases-loop
+loop-holds : tie.Need-loop-i-init invariant-loop decreases-loop
 loop-holds c = (refl, λ ds p. p)
 
 -- from the loop back to where the words of `work` are counted, to where the count of nodes is put, to the start
-abbrev counted : tie.At-loop invariant-loop decreases-loop → tie.After-count invariant-loop decreases-loop
+abbrev counted : tie.At-loop-i invariant-loop decreases-loop → tie.After-count invariant-loop decreases-loop
 counted c = c.before.before
 
-abbrev put : tie.At-loop invariant-loop decreases-loop → tie.After-put invariant-loop decreases-loop
+abbrev put : tie.At-loop-i invariant-loop decreases-loop → tie.After-put invariant-loop decreases-loop
 put c = (counted c).before.before.before
 
-abbrev start : tie.At-loop invariant-loop decreases-loop → tie.Start invariant-loop decreases-loop
+abbrev start : tie.At-loop-i invariant-loop decreases-loop → tie.Start invariant-loop decreases-loop
 start c = (put c).before.before.before.before
 
 -- of a rule r that is built: the count is stored, and in the loop some nodes are placed
-module _ (c : tie.At-loop invariant-loop decreases-loop) {r : Rule}
+module _ (c : tie.At-loop-i invariant-loop decreases-loop) {r : Rule}
     (h : Finishable (words (start c).args.work.now) (start c).args.b (words (start c).args.table.now) r) where
-  stored : words (put c).put.new.0 ≡ set (words (start c).args.table.now) 0 (pos (start c).args.b.nodes)
+  stored : words (put c).put.new.b ≡ set (words (start c).args.table.now) 0 (pos (start c).args.b.nodes)
   stored = put_is (words (start c).args.table.now) _ 0 _ (omega (arith, nodes_few h)) (put c).put.ensures.0
 
   so_far : let n = (start c).args.b.nodes in
-      let at = c.loop in
-      Partway built (words (start c).args.work.now) (words (put c).put.new.0) (words at.table) 0 (n + 1) n
+      let at = c.loop-i in
+      Partway built (words (start c).args.work.now) (words (put c).put.new.b) (words at.table) 0 (n + 1) n
       at.i at.from at.to (nodes r)
-  so_far = c.loop.invariant.1 _ (at_first h stored _ (counted c).count.ensures)
+  so_far = c.loop-i.invariant.1 _ (at_first h stored _ (counted c).count.ensures)
 
 -- the next of them
-placeable : (c : tie.In-loop invariant-loop decreases-loop)
+placeable : (c : tie.In-loop-i invariant-loop decreases-loop)
     → let at = c.before in
-    let loop = at.loop in
+    let loop = at.loop-i in
     Placeable (words (start at).args.work.now) loop.from loop.i (words loop.table) loop.i loop.to
-    (next (so_far at (start at).requires.finishable) c.loop-test.true)
+    (next (so_far at (start at).requires.finishable) c.loop-i-test.true)
 placeable c =
     let at = c.before in
-    next_placeable (so_far at (start at).requires.finishable) c.loop-test.true _ _ (omega arith) (omega arith)
-    (same_words at.loop.table _ at.loop.invariant.0)
+    next_placeable (so_far at (start at).requires.finishable) c.loop-i-test.true _ _ (omega arith) (omega arith)
+    (same_words at.loop-i.table _ at.loop-i.invariant.0)
 
-node-requires : tie.Need-node-requires invariant-loop decreases-loop
+node-requires : tie.Need-node-width-requires invariant-loop decreases-loop
 node-requires c κs = record { node = _; placeable = placeable c.before }
 
-add-from : tie.Need-overflow-add-from invariant-loop decreases-loop
+add-from : tie.Need-overflow_add-from invariant-loop decreases-loop
 add-from c =
     let placed = c.before.before in
     let test = placed.before.before in
     let h = placeable test in
-    omega (arith, (placed.node.ensures _ h).1, body_inside h, words_length (start test.before).args.work.now)
+    omega (arith, (placed.node-width.ensures _ h).1, body_inside h, words_length (start test.before).args.work.now)
 
-add-to-2 : tie.Need-overflow-add-to-2 invariant-loop decreases-loop
+add-to-2 : tie.Need-overflow_add-to-in-loop-i invariant-loop decreases-loop
 add-to-2 c =
     let placed = c.before.before in
     let h = placeable placed.before.before in
-    omega (arith, (placed.node.ensures _ h).1, h.free.most)
+    omega (arith, (placed.node-width.ensures _ h).1, h.free.most)
 
-add-i : tie.Need-overflow-add-i invariant-loop decreases-loop
+add-i : tie.Need-overflow_add-i invariant-loop decreases-loop
 add-i c = omega arith
 
-loop-less : tie.Need-loop-smaller invariant-loop decreases-loop
+loop-less : tie.Need-loop-i-smaller invariant-loop decreases-loop
 loop-less c = omega arith
 
-loop-again : tie.Need-loop-preserved invariant-loop decreases-loop
+loop-again : tie.Need-loop-i-preserved invariant-loop decreases-loop
 loop-again c =
     let placed = c.before.before in
     let test = placed.before.before in
     let at = test.before in
-    let more = test.loop-test.true in
-    let i = at.loop.i in
-    let kept = at.loop.invariant.0 in
-    let same = same_words at.loop.table _ kept in (
-      placed.node.auto.1.1.1.0 ∙ kept,
-      λ ds first. let p = at.loop.invariant.1 ds first in
+    let more = test.loop-i-test.true in
+    let i = at.loop-i.i in
+    let kept = at.loop-i.invariant.0 in
+    let same = same_words at.loop-i.table _ kept in (
+      placed.node-width.auto.1.1.1.0 ∙ kept,
+      λ ds first. let p = at.loop-i.invariant.1 ds first in
           let h = next_placeable p more i i (omega arith) (omega arith) same in
-          let (run, wide) = placed.node.ensures (next p more) h in
+          let (run, wide) = placed.node-width.ensures (next p more) h in
           one_placed p more _ i _ (omega arith) run wide,
     )
 
-same_length : tie.Need-same-length invariant-loop decreases-loop
+same_length : tie.Need-shape_of-table invariant-loop decreases-loop
 same_length c =
     let at = c.before in
-    at.loop.invariant.0 ∙ (put at).put.auto.0
+    at.loop-i.invariant.0 ∙ (put at).put.auto.b
 
 returns : tie.Need-returns invariant-loop decreases-loop
 returns c =

@@ -12,32 +12,32 @@ use Rattle.finishing.proofs.NodeLaws.{second_inside, child_low, other_placed, jo
 use Rattle.finishing.proofs.finish.node.Statement.{statement}
 use Rattle.finishing.proofs.finish.node.Tie as tie
 
-natural-requires : tie.Need-natural-requires
-natural-requires c κs = first_inside c.before.before.requires.placeable
+natural-requires : tie.Need-natural-kind-requires
+natural-requires c κs = first_inside c.requires.placeable
 
-width-requires : tie.Need-width-requires
+width-requires : tie.Need-width-width-requires
 width-requires c κs = search rules
 
-add-put : tie.Need-overflow-add-put
+add-put : tie.Need-overflow_add-i
 add-put c = search rules
 
-cast-put : tie.Need-overflow-cast-put
+cast-put : tie.Need-overflow_cast-to
 cast-put c = search rules
 
 put-requires : tie.Need-put-requires
 put-requires c κs = search rules
 
 -- what is known once the width is, and once the body is copied
-read-node : (c : tie.After-width)
-    → let args = c.before.before.before.before.args in
-    ReadNode (words args.work.now) args.from c.before.natural.result c.width.result
-read-node c = record { first = c.before.natural.ensures.1; wide = c.width.ensures.0 }
+read-node : (c : tie.After-width-width)
+    → let args = c.args in
+    ReadNode (words args.work.now) args.from c.natural-kind.result c.width-width.result
+read-node c = record { first = c.natural-kind.ensures.1; wide = c.width-width.ensures.0 }
 
 copied-node : (c : tie.After-copy)
     → let width = c.before.before.before.before.before.before in
-    let args = width.before.before.before.before.args in
+    let args = width.args in
     CopiedNode (words args.work.now) args.from (words args.table.now) args.i args.to
-    width.before.natural.result width.width.result (words c.copy.new.1.1.1.0)
+    width.natural-kind.result width.width-width.result (words c.copy.new.1.1.1.0)
 copied-node c =
     let put = c.before.before.before.before in
     let width = put.before.before in
@@ -59,37 +59,37 @@ copy-requires c κs =
     let (here, there) = copy_inside start.requires.placeable (read-node width) in
     (here, omega (arith, there, same_words put.put.new.0 start.args.table.now put.put.auto.0))
 
-same_length : tie.Need-same-length
+same_length : tie.Need-shape_of-table-then-kind-ne1
 same_length c = search rules
 
-returns : tie.Need-returns
-returns c = λ d h. other_placed h (copied-node c.before.before.before) c.if1.true
+returns : tie.Need-returns-then-kind-ne1
+returns c = λ d h. other_placed h (copied-node c.before.before.before) c.if-kind-ne1.true
 
-add-put-2 : tie.Need-overflow-add-put-2
+add-put-2 : tie.Need-overflow_add-to
 add-put-2 c = search rules
 
-add-natural : tie.Need-overflow-add-natural
+add-natural : tie.Need-overflow_add-from
 add-natural c =
     let width = c.before.before.before.before.before.before.before.before.before.before in
     let start = width.before.before.before.before in
-    let (here, there) = second_inside start.requires.placeable (read-node width) c.before.if1.false in
+    let (here, there) = second_inside start.requires.placeable (read-node width) c.if-kind-ne1.false in
     omega (arith, here, words_length start.args.work.now)
 
-natural-requires-2 : tie.Need-natural-requires-2
+natural-requires-2 : tie.Need-natural-requires
 natural-requires-2 c κs =
     let width = c.before.before.before.before.before.before.before.before.before.before in
     let start = width.before.before.before.before in
-    (second_inside start.requires.placeable (read-node width) c.before.if1.false).0
+    (second_inside start.requires.placeable (read-node width) c.if-kind-ne1.false).0
 
-add-put-3 : tie.Need-overflow-add-put-3
+add-put-3 : tie.Need-overflow_add-natural
 add-put-3 c = search rules
 
-cast-put-2 : tie.Need-overflow-cast-put-2
+cast-put-2 : tie.Need-overflow_cast-natural
 cast-put-2 c =
     let width = c.before.before.before.before.before.before.before.before.before.before.before in
     let start = width.before.before.before.before in
-    let two = c.before.before.if1.false in
-    let low = child_low start.requires.placeable (read-node width) two c.natural2.result c.natural2.ensures.1 in
+    let two = c.if-kind-ne1.false in
+    let low = child_low start.requires.placeable (read-node width) two c.natural.result c.natural.ensures.1 in
     number_fits _ (omega (arith, low))
 
 put-requires-2 : tie.Need-put-requires-2
@@ -100,28 +100,28 @@ put-requires-2 c κs =
     let start = width.before.before.before.before in
     let many = same_words put.put.new.0 start.args.table.now put.put.auto.0 in
     let still = same_words copied.copy.new.1.1.1.0 put.put.new.0 copied.copy.auto.1.1.1.0 in
-    let (here, there) = second_inside start.requires.placeable (read-node width) c.before.before.if1.false in
+    let (here, there) = second_inside start.requires.placeable (read-node width) c.if-kind-ne1.false in
     omega (arith, there, many, still)
 
-same-length-2 : tie.Need-same-length-2
+same-length-2 : tie.Need-shape_of-table
 same-length-2 c = search rules
 
-returns-2 : tie.Need-returns-2
+returns-2 : tie.Need-returns
 returns-2 c =
     let put = c.before.before in
     let second = put.before in
     let copied = second.before.before.before.before.before in
     let width = copied.before.before.before.before.before.before in
-    let args = width.before.before.before.before.args in
-    let two = second.before.before.if1.false in
-    let u = second.natural2.result in
-    let child = second.natural2.ensures.1 in
+    let args = width.args in
+    let two = second.if-kind-ne1.false in
+    let u = second.natural.result in
+    let child = second.natural.ensures.1 in
     λ d h. join_placed h (copied-node copied) two u child _
     (put_is (words copied.copy.new.1.1.1.0) _ (args.to + 1) (u + args.shift)
-    (child_low h (read-node width) two u child) put.put2.ensures.0)
+    (child_low h (read-node width) two u child) put.put-2.ensures.0)
 
-pub node-spec : {M : Type 1} → statement M
-node-spec =
+pub node_spec : {M : Type 1} → statement M
+node_spec =
     tie.close
     (tie.spec
     natural-requires
