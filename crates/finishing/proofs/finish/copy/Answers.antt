@@ -2,7 +2,6 @@
 -- Assumes nothing.
 use mir.Syntax.{w32}
 use mathlib.Core.Path.{refl, ◌∙◌}
-use Prim.Native.Nat.{◌-◌}
 use native.Mathlib.Omega.{arith}
 use mir.Facts.{to_z-of_z}
 use borrow.Author.Rules.{sfits_of}

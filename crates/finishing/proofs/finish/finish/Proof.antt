@@ -39,14 +39,11 @@ count-requires c κs = search rules
 
 sub-from : tie.Need-overflow_sub-from invariant-loop decreases-loop
 sub-from c =
-    let counted = c.before in
-    let start = counted.before.before.before.before.before.before.before in
-    omega (arith, counted.count.ensures, used_inside start.requires.finishable)
+    omega (arith, c.count.ensures, used_inside c.requires.finishable)
 
 add-to : tie.Need-overflow_add-to invariant-loop decreases-loop
 add-to c =
-    let start = c.before.before.before.before.before.before.before.before in
-    omega (arith, nodes_few start.requires.finishable)
+    omega (arith, nodes_few c.requires.finishable)
 
 loop-holds : tie.Need-loop-i-init invariant-loop decreases-loop
 loop-holds c = (refl, λ ds p. p)
@@ -89,10 +86,9 @@ node-requires c κs = record { node = _; placeable = placeable c.before }
 
 add-from : tie.Need-overflow_add-from invariant-loop decreases-loop
 add-from c =
-    let placed = c.before.before in
-    let test = placed.before.before in
+    let test = c.before.before.before.before in
     let h = placeable test in
-    omega (arith, (placed.node-width.ensures _ h).1, body_inside h, words_length (start test.before).args.work.now)
+    omega (arith, (c.node-width.ensures _ h).1, body_inside h, words_length (start test.before).args.work.now)
 
 add-to-2 : tie.Need-overflow_add-to-in-loop-i invariant-loop decreases-loop
 add-to-2 c =
@@ -108,17 +104,14 @@ loop-less c = omega arith
 
 loop-again : tie.Need-loop-i-preserved invariant-loop decreases-loop
 loop-again c =
-    let placed = c.before.before in
-    let test = placed.before.before in
-    let at = test.before in
-    let more = test.loop-i-test.true in
-    let i = at.loop-i.i in
-    let kept = at.loop-i.invariant.0 in
-    let same = same_words at.loop-i.table _ kept in (
-      placed.node-width.auto.1.1.1.0 ∙ kept,
-      λ ds first. let p = at.loop-i.invariant.1 ds first in
+    let more = c.loop-i-test.true in
+    let i = c.loop-i.i in
+    let kept = c.loop-i.invariant.0 in
+    let same = same_words c.loop-i.table _ kept in (
+      c.node-width.auto.table ∙ kept,
+      λ ds first. let p = c.loop-i.invariant.1 ds first in
           let h = next_placeable p more i i (omega arith) (omega arith) same in
-          let (run, wide) = placed.node-width.ensures (next p more) h in
+          let (run, wide) = c.node-width.ensures (next p more) h in
           one_placed p more _ i _ (omega arith) run wide,
     )
 

@@ -37,27 +37,23 @@ copied-node : (c : tie.After-copy)
     → let width = c.before.before.before.before.before.before in
     let args = width.args in
     CopiedNode (words args.work.now) args.from (words args.table.now) args.i args.to
-    width.natural-kind.result width.width-width.result (words c.copy.new.1.1.1.0)
+    width.natural-kind.result width.width-width.result (words c.copy.new.table)
 copied-node c =
-    let put = c.before.before.before.before in
-    let width = put.before.before in
-    let start = width.before.before.before.before in
-    let args = start.args in
-    let low : args.to ≤ limit = omega (arith, start.requires.placeable.free.most) in
+    let width = c.before.before.before.before.before.before in
+    let args = width.args in
+    let low : args.to ≤ limit = omega (arith, width.requires.placeable.free.most) in
     record {
       read = read-node width;
-      vs = words put.put.new.0;
-      entry = put_is (words args.table.now) _ (args.i + 1) args.to low put.put.ensures.0;
+      vs = words c.put.new.b;
+      entry = put_is (words args.table.now) _ (args.i + 1) args.to low c.put.ensures.0;
       copied = c.copy.ensures;
     }
 
 copy-requires : tie.Need-copy-requires
 copy-requires c κs =
-    let put = c.before.before.before in
-    let width = put.before.before in
-    let start = width.before.before.before.before in
-    let (here, there) = copy_inside start.requires.placeable (read-node width) in
-    (here, omega (arith, there, same_words put.put.new.0 start.args.table.now put.put.auto.0))
+    let width = c.before.before.before.before.before in
+    let (here, there) = copy_inside width.requires.placeable (read-node width) in
+    (here, omega (arith, there, same_words c.put.new.b width.args.table.now c.put.auto.b))
 
 same_length : tie.Need-shape_of-table-then-kind-ne1
 same_length c = search rules
@@ -71,15 +67,13 @@ add-put-2 c = search rules
 add-natural : tie.Need-overflow_add-from
 add-natural c =
     let width = c.before.before.before.before.before.before.before.before.before.before in
-    let start = width.before.before.before.before in
-    let (here, there) = second_inside start.requires.placeable (read-node width) c.if-kind-ne1.false in
-    omega (arith, here, words_length start.args.work.now)
+    let (here, there) = second_inside width.requires.placeable (read-node width) c.if-kind-ne1.false in
+    omega (arith, here, words_length width.args.work.now)
 
 natural-requires-2 : tie.Need-natural-requires
 natural-requires-2 c κs =
     let width = c.before.before.before.before.before.before.before.before.before.before in
-    let start = width.before.before.before.before in
-    (second_inside start.requires.placeable (read-node width) c.if-kind-ne1.false).0
+    (second_inside width.requires.placeable (read-node width) c.if-kind-ne1.false).0
 
 add-put-3 : tie.Need-overflow_add-natural
 add-put-3 c = search rules
@@ -87,20 +81,16 @@ add-put-3 c = search rules
 cast-put-2 : tie.Need-overflow_cast-natural
 cast-put-2 c =
     let width = c.before.before.before.before.before.before.before.before.before.before.before in
-    let start = width.before.before.before.before in
     let two = c.if-kind-ne1.false in
-    let low = child_low start.requires.placeable (read-node width) two c.natural.result c.natural.ensures.1 in
+    let low = child_low width.requires.placeable (read-node width) two c.natural.result c.natural.ensures.1 in
     number_fits _ (omega (arith, low))
 
 put-requires-2 : tie.Need-put-requires-2
 put-requires-2 c κs =
-    let copied = c.before.before.before.before.before in
-    let put = copied.before.before.before.before in
-    let width = put.before.before in
-    let start = width.before.before.before.before in
-    let many = same_words put.put.new.0 start.args.table.now put.put.auto.0 in
-    let still = same_words copied.copy.new.1.1.1.0 put.put.new.0 copied.copy.auto.1.1.1.0 in
-    let (here, there) = second_inside start.requires.placeable (read-node width) c.if-kind-ne1.false in
+    let width = c.before.before.before.before.before.before.before.before.before.before.before in
+    let many = same_words c.put.new.b width.args.table.now c.put.auto.b in
+    let still = same_words c.copy.new.table c.put.new.b c.copy.auto.table in
+    let (here, there) = second_inside width.requires.placeable (read-node width) c.if-kind-ne1.false in
     omega (arith, there, many, still)
 
 same-length-2 : tie.Need-shape_of-table
@@ -108,17 +98,15 @@ same-length-2 c = search rules
 
 returns-2 : tie.Need-returns
 returns-2 c =
-    let put = c.before.before in
-    let second = put.before in
-    let copied = second.before.before.before.before.before in
+    let copied = c.before.before.before.before.before.before.before.before in
     let width = copied.before.before.before.before.before.before in
     let args = width.args in
-    let two = second.if-kind-ne1.false in
-    let u = second.natural.result in
-    let child = second.natural.ensures.1 in
+    let two = c.if-kind-ne1.false in
+    let u = c.natural.result in
+    let child = c.natural.ensures.1 in
     λ d h. join_placed h (copied-node copied) two u child _
-    (put_is (words copied.copy.new.1.1.1.0) _ (args.to + 1) (u + args.shift)
-    (child_low h (read-node width) two u child) put.put-2.ensures.0)
+    (put_is (words copied.copy.new.table) _ (args.to + 1) (u + args.shift)
+    (child_low h (read-node width) two u child) c.put-2.ensures.0)
 
 pub node_spec : {M : Type 1} → statement M
 node_spec =
