@@ -37,12 +37,12 @@ two-requires c κs =
       omega (arith, (setting_range _ s.requires.1).1),
     )
 
-add-one : tie.Need-overflow-add-one
+add-one : tie.Need-overflow_add-i
 add-one c =
     let (a, free) = room (start c.before.before.before) in
     omega (arith, free.entries, free.most)
 
-add-one-2 : tie.Need-overflow-add-one-2
+add-one-2 : tie.Need-overflow_add-to
 add-one-2 c =
     let (a, free) = room (start c.before.before.before) in
     omega (arith, free.most)
@@ -53,15 +53,15 @@ one-requires c κs =
     let put = c.before.before.before in
     let s = start put in
     let (a, free) = room s in
-    let same = same_words put.two.new.0 s.args.table.now put.two.auto.0 in
+    let same = same_words put.two.new.table s.args.table.now put.two.auto.table in
     (free_part _ _ _ _ free same (omega arith) (omega arith) (omega arith), omega arith)
 
-add-rule : tie.Need-overflow-add-rule
+add-rule : tie.Need-overflow_add-i-2
 add-rule c =
     let (a, free) = room (start c.before.before.before.before.before.before.before) in
     omega (arith, free.entries, free.most)
 
-add-rule-2 : tie.Need-overflow-add-rule-2
+add-rule-2 : tie.Need-overflow_add-to-2
 add-rule-2 c =
     let (a, free) = room (start c.before.before.before.before.before.before.before) in
     omega (arith, free.most)
@@ -69,26 +69,23 @@ add-rule-2 c =
 rule-requires : tie.Need-rule-requires
 unfolding count weight
 rule-requires c κs =
-    let negated = c.before.before.before in
-    let put = negated.before.before.before.before in
+    let put = c.before.before.before.before.before.before.before in
     let s = start put in
-    let same = same_words negated.one.new.0 s.args.table.now (negated.one.auto.0 ∙ put.two.auto.0) in
-    (s.pre.0, λ a e. free_part _ _ _ _ (s.pre.2 a e) same (omega arith) (omega arith) (omega arith))
+    let same = same_words c.one.new.table s.args.table.now (c.one.auto.table ∙ put.two.auto.table) in
+    (s.requires.0, λ a e. free_part _ _ _ _ (s.requires.2 a e) same (omega arith) (omega arith) (omega arith))
 
-same_length : tie.Need-same-length
+same_length : tie.Need-shape_of-table
 same_length c = search rules
 
 returns : tie.Need-returns
 returns c = λ a decodes.
-    let copied = c.before.before in
-    let negated = copied.before.before.before.before in
-    let put = negated.before.before.before.before in
+    let put = c.before.before.before.before.before.before.before.before.before.before in
     let free = (start put).requires.2 a decodes in
-    let (run, end) = copied.rule.ensures a decodes in
+    let (run, end) = c.rule.ensures a decodes in
     fails_run _ a (omega (arith, free.bodies)) (put.two.ensures _ (some_body _ _)) free.entries
-    (negated.one.ensures _ (not_body _)) run
+    (c.one.ensures _ (not_body _)) run
 
-pub fails-spec : {M : Type 1} → statement M
-fails-spec =
+pub fails_spec : {M : Type 1} → statement M
+fails_spec =
     tie.close
     (tie.spec two-requires add-one add-one-2 one-requires add-rule add-rule-2 rule-requires same_length returns)

@@ -33,12 +33,12 @@ two-requires c κs =
       omega (arith, (setting_range _ start.requires.1).1),
     )
 
-add-rule : tie.Need-overflow-add-rule
+add-rule : tie.Need-overflow_add-i
 add-rule c =
     let (a, free) = room c.before.before.before.before.before.before.before in
     omega (arith, free.entries, free.most)
 
-add-rule-2 : tie.Need-overflow-add-rule-2
+add-rule-2 : tie.Need-overflow_add-to
 add-rule-2 c =
     let (a, free) = room c.before.before.before.before.before.before.before in
     omega (arith, free.most)
@@ -46,21 +46,17 @@ add-rule-2 c =
 rule-requires : tie.Need-rule-requires
 unfolding count weight
 rule-requires c κs =
-    let put = c.before.before.before in
-    let start = put.before.before.before.before in
-    let same = same_words put.two.new.0 start.args.table.now put.two.auto.0 in
-    (start.requires.0, λ a e. free_part _ _ _ _ (start.requires.2 a e) same (omega arith) (omega arith) (omega arith))
+    let same = same_words c.two.new.table c.args.table.now c.two.auto.table in
+    (c.requires.0, λ a e. free_part _ _ _ _ (c.requires.2 a e) same (omega arith) (omega arith) (omega arith))
 
-same_length : tie.Need-same-length
+same_length : tie.Need-shape_of-table
 same_length c = search rules
 
 returns : tie.Need-returns
 returns c = λ a decodes.
-    let copied = c.before.before in
-    let put = copied.before.before.before.before in
-    let free = put.before.before.before.before.requires.2 a decodes in
-    let (run, end) = copied.rule.ensures a decodes in
-    holds_run _ a (omega (arith, free.bodies)) (put.two.ensures _ (some_body _ _)) _ free.entries run end
+    let free = c.requires.2 a decodes in
+    let (run, end) = c.rule.ensures a decodes in
+    holds_run _ a (omega (arith, free.bodies)) (c.two.ensures _ (some_body _ _)) _ free.entries run end
 
-pub holds-spec : {M : Type 1} → statement M
-holds-spec = tie.close (tie.spec two-requires add-rule add-rule-2 rule-requires same_length returns)
+pub holds_spec : {M : Type 1} → statement M
+holds_spec = tie.close (tie.spec two-requires add-rule add-rule-2 rule-requires same_length returns)
