@@ -98,11 +98,13 @@ further es bs n p w k v r s =
 pub chain_stands : {es bs : List ℤ} {n p : ℕ} (k : ℕ) (r : Rule) → Chained k r → Stands es bs n p r
     → Stands (drop k es) (drop (chain_words k r) bs) (n + k) (p + chain_words k r) (below k r)
 unfolding below chain_words
-chain_stands k r (no_link s) at = moved s refl refl (omega arith) (omega arith) at
+chain_stands {es} {bs} {n} {p} k r (no_link s) at = moved s refl refl (omega arith) (omega arith) at
 chain_stands {es} {bs} {n} {p} k r (a_not {k = i} a c) at =
-    further es bs n p 1 i (chain_words i a) (below i a) (chain_stands i a c (under_not a at))
+    further es bs n p 1 i (chain_words i a) (below i a)
+    (chain_stands {es = drop 1 es} {bs = drop 1 bs} {n = n + 1} {p = p + 1} i a c (under_not a at))
 chain_stands {es} {bs} {n} {p} k r (a_bind {k = i} q v a c) at =
-    further es bs n p 2 i (chain_words i a) (below i a) (chain_stands i a c (under_bind q v a at))
+    further es bs n p 2 i (chain_words i a) (below i a)
+    (chain_stands {es = drop 1 es} {bs = drop 2 bs} {n = n + 1} {p = p + 2} i a c (under_bind q v a at))
 
 -- in bytes, where w words were counted
 pub chain_part : (le lb : List ℕ) {n p : ℕ} (k w : ℕ) (r : Rule) → Chained k r → w ≡ chain_words k r

@@ -119,69 +119,68 @@ module _ (t : ℕ) where
     state = a.b;
   }
 
-  abbrev core-start : core-lts.After-natural (core-calls t) (core_at t) core.Post
+  abbrev core-start : core-lts.After-natural-kind (core-calls t) (core_at t) core.Post
       → core-lts.Start (core-calls t) (core_at t) core.Post
   core-start c = c.before.before.before.before
 
-  abbrev kind_read : core-lts.Else2 (core-calls t) (core_at t) core.Post
-      → core-lts.After-natural (core-calls t) (core_at t) core.Post
+  abbrev kind_read : core-lts.Else-kind-gt3 (core-calls t) (core_at t) core.Post
+      → core-lts.After-natural-kind (core-calls t) (core_at t) core.Post
   kind_read c = c.before.before
 
-  abbrev side-found : core-lts.After-fold (core-calls t) (core_at t) core.Post
-      → core-lts.After-right (core-calls t) (core_at t) core.Post
+  abbrev side-found : core-lts.After-fold-right (core-calls t) (core_at t) core.Post
+      → core-lts.After-right-side (core-calls t) (core_at t) core.Post
   side-found c = c.before.before.before.before
 
   abbrev side-answered : core-lts.After-settles (core-calls t) (core_at t) core.Post
-      → core-lts.After-fold (core-calls t) (core_at t) core.Post
+      → core-lts.After-fold-right (core-calls t) (core_at t) core.Post
   side-answered c = c.before.before.before
 
   -- the kind is read
-  kinded : (c : core-lts.After-natural (core-calls t) (core_at t) core.Post)
-      → Kinded (core-call (core-start c)) c.natural.result
-  kinded c = record { some = (core-start c).requires.1; first = c.natural.ensures.1 }
+  kinded : (c : core-lts.After-natural-kind (core-calls t) (core_at t) core.Post)
+      → Kinded (core-call (core-start c)) c.natural-kind.result
+  kinded c = record { some = (core-start c).requires.1; first = c.natural-kind.ensures.1 }
 
   -- it is a join's
-  join_kind : (c : core-lts.Else2 (core-calls t) (core_at t) core.Post)
-      → let r = kind_read c in JoinKind (core-call (core-start r)) r.natural.result
-  join_kind c = record { kinded = kinded (kind_read c); low = c.before.if1.false; high = c.if2.false }
+  join_kind : (c : core-lts.Else-kind-gt3 (core-calls t) (core_at t) core.Post)
+      → let r = kind_read c in JoinKind (core-call (core-start r)) r.natural-kind.result
+  join_kind c = record { kinded = kinded (kind_read c); low = c.if-kind-lt2.false; high = c.if-kind-gt3.false }
 
   -- the right side is answered
-  right-answered : (c : core-lts.After-fold (core-calls t) (core_at t) core.Post)
+  right-answered : (c : core-lts.After-fold-right (core-calls t) (core_at t) core.Post)
       → let found = side-found c in
       let r = kind_read found.before in
-      RightAnswered (core-call (core-start r)) r.natural.result found.right.result
-      c.fold.new.1.1.1.1.1.1.0 c.fold.result
+      RightAnswered (core-call (core-start r)) r.natural-kind.result found.right-side.result
+      c.fold-right.new.out c.fold-right.result
   right-answered c = record {
     join = join_kind (side-found c).before;
-    found = (side-found c).right.ensures;
-    answered = c.fold.ensures;
-    kept = c.fold.auto.1.1.1.1.1.1.0;
+    found = (side-found c).right-side.ensures;
+    answered = c.fold-right.ensures;
+    kept = c.fold-right.auto.out;
   }
 
   -- it does not settle the join
-  join_open : (c : core-lts.After-after (core-calls t) (core_at t) core.Post)
+  join_open : (c : core-lts.After-after-c (core-calls t) (core_at t) core.Post)
       → let r = kind_read (side-found (side-answered c.before.before)).before in
-      JoinKind (core-call (core-start r)) r.natural.result
+      JoinKind (core-call (core-start r)) r.natural-kind.result
   join_open c = join_kind (side-found (side-answered c.before.before)).before
 
   -- both sides are answered
-  both-answered : (c : core-lts.After-fold2 (core-calls t) (core_at t) core.Post)
+  both-answered : (c : core-lts.After-fold-left (core-calls t) (core_at t) core.Post)
       → let put = c.before.before.before.before in
       let first = side-answered put.before.before in
       let found = side-found first in
       let r = kind_read found.before in
-      BothAnswered (core-call (core-start r)) r.natural.result found.right.result
-      first.fold.last.1.1.1.1.1.1.0 first.fold.result put.after.result
-      c.fold2.new.1.1.1.1.1.1.0 c.fold2.result
+      BothAnswered (core-call (core-start r)) r.natural-kind.result found.right-side.result
+      first.fold-right.new.out first.fold-right.result put.after-c.result
+      c.fold-left.new.out c.fold-left.result
   both-answered c =
-      let put = c.before.before.before.before in
-      let settling = put.before.before in
+      let settling = c.before.before.before.before.before.before in
       record {
         first = right-answered (side-answered settling);
-        unsettled = sym settling.settles.ensures ∙ put.before.if3.false;
-        state = put.after.ensures;
-        answered = c.fold2.ensures;
-        kept = c.fold2.auto.1.1.1.1.1.1.0;
+        unsettled = sym settling.settles.ensures ∙ c.if-settles.false;
+        state = c.after-c.ensures;
+        answered = c.fold-left.ensures;
+        kept = c.fold-left.auto.out;
       }
 
   -- what each step of the code asks, in its order
@@ -190,32 +189,32 @@ module _ (t : ℕ) where
       -- the kind
       (λ c κs. let s = c.before.before.before in first_word (core-call s).part s.requires.1.ready.ready.at)
       -- a constant
-      (λ c. constant_gives (kinded c.before) c.if1.true)
+      (λ c. constant_gives (kinded c.before) c.if-kind-lt2.true)
       -- a literal
-      (λ c κs. literal_asks (kinded c.before.before.before) c.before.if2.true)
+      (λ c κs. literal_asks (kinded c.before.before.before) c.if-kind-gt3.true)
       (λ c. search rules)
       (λ c. let test = c.before.before.before.before in
-      literal_gives (kinded test.before.before) test.if2.true _ _ c.before.before.literal.ensures)
+      literal_gives (kinded test.before.before) test.if-kind-gt3.true _ _ c.literal.ensures)
       -- a join: its right side is found
       (λ c κs. right_asks (join_there (join_kind c)))
-      (λ c. entries_there (join_there (join_kind c.before)) c.right.ensures)
-      (λ c. entries_there (join_there (join_kind c.before)) c.right.ensures)
+      (λ c. entries_there (join_there (join_kind c.before)) c.right-side.ensures)
+      (λ c. entries_there (join_there (join_kind c.before)) c.right-side.ensures)
       (λ c. search rules)
-      (λ c. bodies_there (join_there (join_kind c.before.before)) c.before.right.ensures)
-      (λ c. bodies_there (join_there (join_kind c.before.before)) c.before.right.ensures)
+      (λ c. bodies_there (join_there (join_kind c.before.before)) c.right-side.ensures)
+      (λ c. bodies_there (join_there (join_kind c.before.before)) c.right-side.ensures)
       (λ c. search rules)
       -- and walked
       (λ c κs. let side = c.before.before.before in
       let join = join_kind side.before in
-      let counted = (core-start (kind_read side.before)).pre.0 in (
-        omega (arith, counted, right_shorter (join_there join) side.right.ensures),
-        right_side_asks join side.right.ensures,
+      let counted = (core-start (kind_read side.before)).requires.0 in (
+        omega (arith, counted, right_shorter (join_there join) side.right-side.ensures),
+        right_side_asks join side.right-side.ensures,
       ))
       -- it settles the join
       (λ c κs. tt)
       (λ c. search rules)
       (λ c. let settling = c.before in
-      settled_gives (right-answered (side-answered settling)) (sym settling.settles.ensures ∙ c.if3.true))
+      settled_gives (right-answered (side-answered settling)) (sym settling.settles.ensures ∙ c.if-settles.true))
       (λ c κs. tt)
       -- or the left side is walked
       (λ c. entry_there _ (join_there (join_open c)).whole)
@@ -229,8 +228,8 @@ module _ (t : ℕ) where
       (λ c κs. let put = c.before.before.before in
       let first = side-answered put.before.before in
       let start = core-start (kind_read (side-found first).before) in (
-        omega (arith, start.pre.0, left_shorter (core-call start).part (join_there (join_open put)).whole),
-        left_side_asks (right-answered first) put.after.ensures,
+        omega (arith, start.requires.0, left_shorter (core-call start).part (join_there (join_open put)).whole),
+        left_side_asks (right-answered first) put.after-c.ensures,
       ))
       -- and both are joined
       (λ c κs. joined_asks (both-answered c.before.before.before))
@@ -249,25 +248,25 @@ module _ (t : ℕ) where
     state = a.b;
   }
 
-  abbrev fold_start : fold-lts.After-chain (fold-calls t) (fold_at t) fold.Post
+  abbrev fold_start : fold-lts.After-chain-links (fold-calls t) (fold_at t) fold.Post
       → fold-lts.Start (fold-calls t) (fold_at t) fold.Post
   fold_start c = c.before.before.before.before
 
-  abbrev chain-found : fold-lts.After-core-arg3 (fold-calls t) (fold_at t) fold.Post
-      → fold-lts.After-chain (fold-calls t) (fold_at t) fold.Post
+  abbrev chain-found : fold-lts.After-core-arg-3-1 (fold-calls t) (fold_at t) fold.Post
+      → fold-lts.After-chain-links (fold-calls t) (fold_at t) fold.Post
   chain-found c = c.before.before.before.before.before.before.before
 
   -- the chain is found
-  linked : (c : fold-lts.After-chain (fold-calls t) (fold_at t) fold.Post)
-      → Linked (fold-call (fold_start c)) c.chain.result
-  linked c = record { some = (fold_start c).requires.1; found = c.chain.ensures }
+  linked : (c : fold-lts.After-chain-links (fold-calls t) (fold_at t) fold.Post)
+      → Linked (fold-call (fold_start c)) c.chain-links.result
+  linked c = record { some = (fold_start c).requires.1; found = c.chain-links.ensures }
 
   -- what stands under it is answered
-  inner-answered : (c : fold-lts.After-core (fold-calls t) (fold_at t) fold.Post)
+  inner-answered : (c : fold-lts.After-core-inner (fold-calls t) (fold_at t) fold.Post)
       → let found = chain-found c.before in
-      InnerAnswered (fold-call (fold_start found)) found.chain.result c.core.new.1.1.1.1.1.1.0
-      c.core.result
-  inner-answered c = record { linked = linked (chain-found c.before); answered = c.core.ensures }
+      InnerAnswered (fold-call (fold_start found)) found.chain-links.result c.core-inner.new.out
+      c.core-inner.result
+  inner-answered c = record { linked = linked (chain-found c.before); answered = c.core-inner.ensures }
 
   -- what each step of the code asks, in its order
   fold-meets : {M : Type 1} → fold-lts.Closed (fold-calls t) (fold_at t) fold.Post M
@@ -287,12 +286,12 @@ module _ (t : ℕ) where
       (λ c. omega (arith, inner_node (chain_there (linked c.before.before.before.before.before))))
       (λ c. omega (arith, inner_place (chain_there (linked c.before.before.before.before.before.before))))
       (λ c κs. let found = chain-found c in
-      (omega (arith, (fold_start found).pre.0, inner_short (chain_there (linked found))), core_asks (linked found)))
+      (omega (arith, (fold_start found).requires.0, inner_short (chain_there (linked found))), core_asks (linked found)))
       -- and what was answered is wrapped
       (λ c κs. wrapped_asks (inner-answered c.before.before.before))
       (λ c. search rules)
       (λ c. let wrapped = c.before.before in
       wrapped_gives (inner-answered wrapped.before.before.before.before) _ _ wrapped.wrapped.ensures)
 
-pub +core-fold-spec : {M : Type 1} → statement M
-+core-fold-spec = close core-measure fold-measure (λ t. core-meets t) (λ t. fold-meets t)
+pub +core_fold_spec : {M : Type 1} → statement M
++core_fold_spec = close core-measure fold-measure (λ t. core-meets t) (λ t. fold-meets t)

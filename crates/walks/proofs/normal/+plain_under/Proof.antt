@@ -113,66 +113,66 @@ module _ (t : ℕ) where
     state = a.b;
   }
 
-  abbrev plain-start : plain-lts.After-natural (plain-calls t) (plain_at t) plain.Post
+  abbrev plain-start : plain-lts.After-natural-kind (plain-calls t) (plain_at t) plain.Post
       → plain-lts.Start (plain-calls t) (plain_at t) plain.Post
   plain-start c = c.before.before.before.before
 
-  abbrev plain-read : plain-lts.Else4 (plain-calls t) (plain_at t) plain.Post
-      → plain-lts.After-natural (plain-calls t) (plain_at t) plain.Post
+  abbrev plain-read : plain-lts.Else-kind-gt3 (plain-calls t) (plain_at t) plain.Post
+      → plain-lts.After-natural-kind (plain-calls t) (plain_at t) plain.Post
   plain-read c = c.before.before.before
 
-  abbrev plain-side : plain-lts.After-plain2 (plain-calls t) (plain_at t) plain.Post
-      → plain-lts.After-right (plain-calls t) (plain_at t) plain.Post
+  abbrev plain-side : plain-lts.After-plain-right (plain-calls t) (plain_at t) plain.Post
+      → plain-lts.After-right-side (plain-calls t) (plain_at t) plain.Post
   plain-side c = c.before.before.before.before
 
-  abbrev plain-first : plain-lts.After-known-told (plain-calls t) (plain_at t) plain.Post
-      → plain-lts.After-plain2 (plain-calls t) (plain_at t) plain.Post
-  plain-first c = c.before.before.before.before.before
+  abbrev plain-first : plain-lts.In-Made (plain-calls t) (plain_at t) plain.Post
+      → plain-lts.After-plain-right (plain-calls t) (plain_at t) plain.Post
+  plain-first c = c.before.before.before
 
   abbrev plain-put : plain-lts.After-after (plain-calls t) (plain_at t) plain.Post
-      → plain-lts.After-known-told (plain-calls t) (plain_at t) plain.Post
+      → plain-lts.In-Made (plain-calls t) (plain_at t) plain.Post
   plain-put c = c.before.before.before.before
 
   -- the kind is read
-  plain-kinded : (c : plain-lts.After-natural (plain-calls t) (plain_at t) plain.Post)
-      → Kinded (plain-call (plain-start c)) c.natural.result
-  plain-kinded c = record { some = (plain-start c).requires.1; first = c.natural.ensures.1 }
+  plain-kinded : (c : plain-lts.After-natural-kind (plain-calls t) (plain_at t) plain.Post)
+      → Kinded (plain-call (plain-start c)) c.natural-kind.result
+  plain-kinded c = record { some = (plain-start c).requires.1; first = c.natural-kind.ensures.1 }
 
   -- it is a not's, and the run of nots is found; its number is odd or even
-  abbrev plain-not : plain-lts.After-chain (plain-calls t) (plain_at t) plain.Post
-      → plain-lts.After-natural (plain-calls t) (plain_at t) plain.Post
+  abbrev plain-not : plain-lts.After-chain-links (plain-calls t) (plain_at t) plain.Post
+      → plain-lts.After-natural-kind (plain-calls t) (plain_at t) plain.Post
   plain-not c = c.before.before.before
 
-  abbrev plain-odd : plain-lts.Then3 (plain-calls t) (plain_at t) plain.Post
-      → plain-lts.After-chain (plain-calls t) (plain_at t) plain.Post
+  abbrev plain-odd : plain-lts.Then-links-eq1 (plain-calls t) (plain_at t) plain.Post
+      → plain-lts.After-chain-links (plain-calls t) (plain_at t) plain.Post
   plain-odd c = c.before.before.before.before.before.before
 
-  abbrev plain-even : plain-lts.Else3 (plain-calls t) (plain_at t) plain.Post
-      → plain-lts.After-chain (plain-calls t) (plain_at t) plain.Post
+  abbrev plain-even : plain-lts.Else-links-eq1 (plain-calls t) (plain_at t) plain.Post
+      → plain-lts.After-chain-links (plain-calls t) (plain_at t) plain.Post
   plain-even c = c.before.before.before.before.before.before
 
-  plain-nots : (c : plain-lts.After-chain (plain-calls t) (plain_at t) plain.Post)
-      → let read = plain-not c in NotsFound (plain-call (plain-start read)) read.natural.result c.chain.result
+  plain-nots : (c : plain-lts.After-chain-links (plain-calls t) (plain_at t) plain.Post)
+      → let read = plain-not c in NotsFound (plain-call (plain-start read)) read.natural-kind.result c.chain-links.result
   plain-nots c =
-      record { kinded = plain-kinded (plain-not c); is_not = c.before.if2.true; found = c.chain.ensures }
+      record { kinded = plain-kinded (plain-not c); is_not = c.if-kind-eq4.true; found = c.chain-links.ensures }
 
   -- it is a join's
-  plain-joined : (c : plain-lts.Else4 (plain-calls t) (plain_at t) plain.Post)
-      → let read = plain-read c in JoinKind (plain-call (plain-start read)) read.natural.result
+  plain-joined : (c : plain-lts.Else-kind-gt3 (plain-calls t) (plain_at t) plain.Post)
+      → let read = plain-read c in JoinKind (plain-call (plain-start read)) read.natural-kind.result
   plain-joined c =
-      record { kinded = plain-kinded (plain-read c); low = c.before.before.if1.false; high = c.if4.false }
+      record { kinded = plain-kinded (plain-read c); low = c.if-kind-lt2.false; high = c.if-kind-gt3.false }
 
   -- its right side is answered
-  plain-right : (c : plain-lts.After-plain2 (plain-calls t) (plain_at t) plain.Post)
+  plain-right : (c : plain-lts.After-plain-right (plain-calls t) (plain_at t) plain.Post)
       → let side = plain-side c in
       let read = plain-read side.before in
-      RightAnswered (plain-call (plain-start read)) read.natural.result side.right.result true
-      c.plain2.new.1.1.1.1.1.0 c.plain2.result
+      RightAnswered (plain-call (plain-start read)) read.natural-kind.result side.right-side.result true
+      c.plain-right.new.out c.plain-right.result
   plain-right c = record {
     join = plain-joined (plain-side c).before;
-    found = (plain-side c).right.ensures;
-    answer = c.plain2.ensures;
-    kept = c.plain2.auto.1.1.1.1.1.0;
+    found = (plain-side c).right-side.ensures;
+    answer = c.plain-right.ensures;
+    kept = c.plain-right.auto.out;
   }
 
   -- it is put
@@ -181,32 +181,32 @@ module _ (t : ℕ) where
       let right = plain-first put in
       let side = plain-side right in
       let read = plain-read side.before in
-      RightMade (plain-call (plain-start read)) read.natural.result side.right.result true
-      right.plain2.last.1.1.1.1.1.0 right.plain2.result
-      put.before.right2.given.0.0 c.after.result
+      RightMade (plain-call (plain-start read)) read.natural-kind.result side.right-side.result true
+      right.plain-right.new.out right.plain-right.result
+      put.in-Made.r c.after.result
   plain-made c =
       let put = plain-put c in
-      record { right = plain-right (plain-first put); made = put.before.right2.given.1; state = c.after.ensures }
+      record { right = plain-right (plain-first put); made = put.in-Made.is; state = c.after.ensures }
 
-  plain-join : (c : plain-lts.After-known-told (plain-calls t) (plain_at t) plain.Post)
+  plain-join : (c : plain-lts.In-Made (plain-calls t) (plain_at t) plain.Post)
       → let read = plain-read (plain-side (plain-first c)).before in
-      JoinKind (plain-call (plain-start read)) read.natural.result
+      JoinKind (plain-call (plain-start read)) read.natural-kind.result
   plain-join c = plain-joined (plain-side (plain-first c)).before
 
   -- and the left side is answered
-  plain-left : (c : plain-lts.After-plain3 (plain-calls t) (plain_at t) plain.Post)
+  plain-left : (c : plain-lts.After-plain-left (plain-calls t) (plain_at t) plain.Post)
       → let put = plain-put c.before in
       let right = plain-first put in
       let side = plain-side right in
       let read = plain-read side.before in
-      LeftAnswered (plain-call (plain-start read)) read.natural.result side.right.result true
-      right.plain2.last.1.1.1.1.1.0 right.plain2.result
-      put.before.right2.given.0.0 c.before.after.result
-      c.plain3.new.1.1.1.1.1.0 c.plain3.result
+      LeftAnswered (plain-call (plain-start read)) read.natural-kind.result side.right-side.result true
+      right.plain-right.new.out right.plain-right.result
+      put.in-Made.r c.after.result
+      c.plain-left.new.out c.plain-left.result
   plain-left c = record {
     right = plain-made c.before;
-    answer = c.plain3.ensures;
-    kept = c.plain3.auto.1.1.1.1.1.0;
+    answer = c.plain-left.ensures;
+    kept = c.plain-left.auto.out;
   }
 
   -- what each step of the code asks, in its order
@@ -215,7 +215,7 @@ module _ (t : ℕ) where
       -- the kind
       (λ c κs. let s = c.before.before.before in first_word (plain-call s).part s.requires.1.ready.at)
       -- a constant
-      (λ c. constant_made (plain-kinded c.before) c.if1.true true)
+      (λ c. constant_made (plain-kinded c.before) c.if-kind-lt2.true true)
       -- a run of nots
       (λ c κs. let read = c.before.before in
       (chain_asks (plain-call (plain-start read)).part (rule_there (plain-kinded read)), omega arith))
@@ -231,12 +231,11 @@ module _ (t : ℕ) where
       (λ c. words_there (run_there (plain-nots (plain-odd c.before))))
       (λ c. search rules)
       (λ c κs. let run = plain-odd c.before.before.before in
-      let counted = (plain-start (plain-not run)).pre.0 in
+      let counted = (plain-start (plain-not run)).requires.0 in
       (omega (arith, counted, run_shorter (plain-nots run)), inner_asks (plain-nots run)))
       (λ c. search rules)
-      (λ c. let answer = c.before.before in
-      let test = answer.before.before.before.before in
-      odd_made (plain-nots (plain-odd test)) true _ _ test.if3.true answer.under.ensures)
+      (λ c. let test = c.before.before.before.before.before.before in
+      odd_made (plain-nots (plain-odd test)) true _ _ test.if-links-eq1.true c.under.ensures)
       -- an even one
       (λ c. nodes_there (run_there (plain-nots (plain-even c))))
       (λ c. nodes_there (run_there (plain-nots (plain-even c))))
@@ -245,39 +244,38 @@ module _ (t : ℕ) where
       (λ c. words_there (run_there (plain-nots (plain-even c.before))))
       (λ c. search rules)
       (λ c κs. let run = plain-even c.before.before.before in
-      let counted = (plain-start (plain-not run)).pre.0 in
+      let counted = (plain-start (plain-not run)).requires.0 in
       (omega (arith, counted, run_shorter (plain-nots run)), inner_asks (plain-nots run)))
       (λ c. search rules)
-      (λ c. let answer = c.before.before in
-      let test = answer.before.before.before.before in
-      even_made (plain-nots (plain-even test)) true _ _ test.if3.false answer.plain.ensures)
+      (λ c. let test = c.before.before.before.before.before.before in
+      even_made (plain-nots (plain-even test)) true _ _ test.if-links-eq1.false c.plain.ensures)
       -- a literal
       (λ c κs. let test = c.before in
-      literal_asks (plain-kinded test.before.before.before) test.if4.true test.before.if2.false)
+      literal_asks (plain-kinded test.before.before.before) test.if-kind-gt3.true test.if-kind-eq4.false)
       (λ c. search rules)
       (λ c. let test = c.before.before.before.before in
-      literal_made (plain-kinded test.before.before.before) test.if4.true test.before.if2.false true _ _
-      c.before.before.literal.ensures)
+      literal_made (plain-kinded test.before.before.before) test.if-kind-gt3.true test.if-kind-eq4.false true _ _
+      c.literal.ensures)
       -- a join: its right side is found
       (λ c κs. right_asks (join_there (plain-joined c)))
-      (λ c. entries_there (join_there (plain-joined c.before)) c.right.ensures)
-      (λ c. entries_there (join_there (plain-joined c.before)) c.right.ensures)
+      (λ c. entries_there (join_there (plain-joined c.before)) c.right-side.ensures)
+      (λ c. entries_there (join_there (plain-joined c.before)) c.right-side.ensures)
       (λ c. search rules)
-      (λ c. bodies_there (join_there (plain-joined c.before.before)) c.before.right.ensures)
-      (λ c. bodies_there (join_there (plain-joined c.before.before)) c.before.right.ensures)
+      (λ c. bodies_there (join_there (plain-joined c.before.before)) c.right-side.ensures)
+      (λ c. bodies_there (join_there (plain-joined c.before.before)) c.right-side.ensures)
       (λ c. search rules)
       -- and walked
       (λ c κs. let side = c.before.before.before in
       let join = plain-joined side.before in
-      let counted = (plain-start (plain-read side.before)).pre.0 in (
-        omega (arith, counted, right_shorter (join_there join) side.right.ensures),
-        right_side_asks join side.right.ensures,
+      let counted = (plain-start (plain-read side.before)).requires.0 in (
+        omega (arith, counted, right_shorter (join_there join) side.right-side.ensures),
+        right_side_asks join side.right-side.ensures,
       ))
       -- a number of it passes the limit
       (λ c. search rules)
       (λ c. search rules)
       (λ c. search rules)
-      (λ c. join_right_over (plain-right c.before.before.before.before) c.enum_told.given.1)
+      (λ c. join_right_over (plain-right c.before.before.before) c.in_default.is)
       -- or its left side is walked
       (λ c. entry_there _ (join_there (plain-join c)).whole)
       (λ c. entry_there _ (join_there (plain-join c)).whole)
@@ -290,21 +288,18 @@ module _ (t : ℕ) where
       (λ c κs. search rules)
       (λ c κs. let put = plain-put c in
       let start = plain-start (plain-read (plain-side (plain-first put)).before) in (
-        omega (arith, start.pre.0, left_shorter (plain-call start).part (join_there (plain-join put)).whole),
+        omega (arith, start.requires.0, left_shorter (plain-call start).part (join_there (plain-join put)).whole),
         left_side_asks (plain-made c),
       ))
       -- a number of it passes the limit
       (λ c. search rules)
       (λ c. search rules)
       (λ c. search rules)
-      (λ c. join_left_over (plain-left c.before.before.before.before) c.enum-told2.given.1)
+      (λ c. join_left_over (plain-left c.before.before.before) c.in_default-left.is)
       -- or both are joined
-      (λ c κs. let put = c.before.before in
-      both_asks (plain-left put.before.before.before.before) put.left.given.1)
+      (λ c κs. both_asks (plain-left c.before.before.before.before) c.in-Made-left.is)
       (λ c. search rules)
-      (λ c. let put = c.before.before.before.before.before in
-      join_both (plain-left put.before.before.before.before) put.left.given.1 _ _
-      c.before.before.both.ensures)
+      (λ c. join_both (plain-left c.before.before.before.before.before.before.before) c.in-Made-left.is _ _ c.both.ensures)
 
 -- ---- the walk under a not
 
@@ -340,66 +335,66 @@ module _ (t : ℕ) where
     state = a.b;
   }
 
-  abbrev under-start : under-lts.After-natural (under-calls t) (under_at t) under.Post
+  abbrev under-start : under-lts.After-natural-kind (under-calls t) (under_at t) under.Post
       → under-lts.Start (under-calls t) (under_at t) under.Post
   under-start c = c.before.before.before.before
 
-  abbrev under-read : under-lts.Else4 (under-calls t) (under_at t) under.Post
-      → under-lts.After-natural (under-calls t) (under_at t) under.Post
+  abbrev under-read : under-lts.Else-kind-gt3 (under-calls t) (under_at t) under.Post
+      → under-lts.After-natural-kind (under-calls t) (under_at t) under.Post
   under-read c = c.before.before.before
 
-  abbrev under-side : under-lts.After-under2 (under-calls t) (under_at t) under.Post
-      → under-lts.After-right (under-calls t) (under_at t) under.Post
+  abbrev under-side : under-lts.After-under-right (under-calls t) (under_at t) under.Post
+      → under-lts.After-right-side (under-calls t) (under_at t) under.Post
   under-side c = c.before.before.before.before
 
-  abbrev under_first : under-lts.After-known-told (under-calls t) (under_at t) under.Post
-      → under-lts.After-under2 (under-calls t) (under_at t) under.Post
-  under_first c = c.before.before.before.before.before
+  abbrev under_first : under-lts.In-Made (under-calls t) (under_at t) under.Post
+      → under-lts.After-under-right (under-calls t) (under_at t) under.Post
+  under_first c = c.before.before.before
 
   abbrev under-put : under-lts.After-after (under-calls t) (under_at t) under.Post
-      → under-lts.After-known-told (under-calls t) (under_at t) under.Post
+      → under-lts.In-Made (under-calls t) (under_at t) under.Post
   under-put c = c.before.before.before.before
 
   -- the kind is read
-  under-kinded : (c : under-lts.After-natural (under-calls t) (under_at t) under.Post)
-      → Kinded (under-call (under-start c)) c.natural.result
-  under-kinded c = record { some = (under-start c).requires.1; first = c.natural.ensures.1 }
+  under-kinded : (c : under-lts.After-natural-kind (under-calls t) (under_at t) under.Post)
+      → Kinded (under-call (under-start c)) c.natural-kind.result
+  under-kinded c = record { some = (under-start c).requires.1; first = c.natural-kind.ensures.1 }
 
   -- it is a not's, and the run of nots is found; its number is odd or even
-  abbrev under_not : under-lts.After-chain (under-calls t) (under_at t) under.Post
-      → under-lts.After-natural (under-calls t) (under_at t) under.Post
+  abbrev under_not : under-lts.After-chain-links (under-calls t) (under_at t) under.Post
+      → under-lts.After-natural-kind (under-calls t) (under_at t) under.Post
   under_not c = c.before.before.before
 
-  abbrev under-odd : under-lts.Then3 (under-calls t) (under_at t) under.Post
-      → under-lts.After-chain (under-calls t) (under_at t) under.Post
+  abbrev under-odd : under-lts.Then-links-eq1 (under-calls t) (under_at t) under.Post
+      → under-lts.After-chain-links (under-calls t) (under_at t) under.Post
   under-odd c = c.before.before.before.before.before.before
 
-  abbrev under-even : under-lts.Else3 (under-calls t) (under_at t) under.Post
-      → under-lts.After-chain (under-calls t) (under_at t) under.Post
+  abbrev under-even : under-lts.Else-links-eq1 (under-calls t) (under_at t) under.Post
+      → under-lts.After-chain-links (under-calls t) (under_at t) under.Post
   under-even c = c.before.before.before.before.before.before
 
-  under-nots : (c : under-lts.After-chain (under-calls t) (under_at t) under.Post)
-      → let read = under_not c in NotsFound (under-call (under-start read)) read.natural.result c.chain.result
+  under-nots : (c : under-lts.After-chain-links (under-calls t) (under_at t) under.Post)
+      → let read = under_not c in NotsFound (under-call (under-start read)) read.natural-kind.result c.chain-links.result
   under-nots c =
-      record { kinded = under-kinded (under_not c); is_not = c.before.if2.true; found = c.chain.ensures }
+      record { kinded = under-kinded (under_not c); is_not = c.if-kind-eq4.true; found = c.chain-links.ensures }
 
   -- it is a join's
-  under-joined : (c : under-lts.Else4 (under-calls t) (under_at t) under.Post)
-      → let read = under-read c in JoinKind (under-call (under-start read)) read.natural.result
+  under-joined : (c : under-lts.Else-kind-gt3 (under-calls t) (under_at t) under.Post)
+      → let read = under-read c in JoinKind (under-call (under-start read)) read.natural-kind.result
   under-joined c =
-      record { kinded = under-kinded (under-read c); low = c.before.before.if1.false; high = c.if4.false }
+      record { kinded = under-kinded (under-read c); low = c.if-kind-lt2.false; high = c.if-kind-gt3.false }
 
   -- its right side is answered
-  under-right : (c : under-lts.After-under2 (under-calls t) (under_at t) under.Post)
+  under-right : (c : under-lts.After-under-right (under-calls t) (under_at t) under.Post)
       → let side = under-side c in
       let read = under-read side.before in
-      RightAnswered (under-call (under-start read)) read.natural.result side.right.result false
-      c.under2.new.1.1.1.1.1.0 c.under2.result
+      RightAnswered (under-call (under-start read)) read.natural-kind.result side.right-side.result false
+      c.under-right.new.out c.under-right.result
   under-right c = record {
     join = under-joined (under-side c).before;
-    found = (under-side c).right.ensures;
-    answer = c.under2.ensures;
-    kept = c.under2.auto.1.1.1.1.1.0;
+    found = (under-side c).right-side.ensures;
+    answer = c.under-right.ensures;
+    kept = c.under-right.auto.out;
   }
 
   -- it is put
@@ -408,32 +403,32 @@ module _ (t : ℕ) where
       let right = under_first put in
       let side = under-side right in
       let read = under-read side.before in
-      RightMade (under-call (under-start read)) read.natural.result side.right.result false
-      right.under2.last.1.1.1.1.1.0 right.under2.result
-      put.before.right2.given.0.0 c.after.result
+      RightMade (under-call (under-start read)) read.natural-kind.result side.right-side.result false
+      right.under-right.new.out right.under-right.result
+      put.in-Made.r c.after.result
   under-made c =
       let put = under-put c in
-      record { right = under-right (under_first put); made = put.before.right2.given.1; state = c.after.ensures }
+      record { right = under-right (under_first put); made = put.in-Made.is; state = c.after.ensures }
 
-  under-join : (c : under-lts.After-known-told (under-calls t) (under_at t) under.Post)
+  under-join : (c : under-lts.In-Made (under-calls t) (under_at t) under.Post)
       → let read = under-read (under-side (under_first c)).before in
-      JoinKind (under-call (under-start read)) read.natural.result
+      JoinKind (under-call (under-start read)) read.natural-kind.result
   under-join c = under-joined (under-side (under_first c)).before
 
   -- and the left side is answered
-  under_left : (c : under-lts.After-under3 (under-calls t) (under_at t) under.Post)
+  under_left : (c : under-lts.After-under-left (under-calls t) (under_at t) under.Post)
       → let put = under-put c.before in
       let right = under_first put in
       let side = under-side right in
       let read = under-read side.before in
-      LeftAnswered (under-call (under-start read)) read.natural.result side.right.result false
-      right.under2.last.1.1.1.1.1.0 right.under2.result
-      put.before.right2.given.0.0 c.before.after.result
-      c.under3.new.1.1.1.1.1.0 c.under3.result
+      LeftAnswered (under-call (under-start read)) read.natural-kind.result side.right-side.result false
+      right.under-right.new.out right.under-right.result
+      put.in-Made.r c.after.result
+      c.under-left.new.out c.under-left.result
   under_left c = record {
     right = under-made c.before;
-    answer = c.under3.ensures;
-    kept = c.under3.auto.1.1.1.1.1.0;
+    answer = c.under-left.ensures;
+    kept = c.under-left.auto.out;
   }
 
   -- what each step of the code asks, in its order
@@ -442,7 +437,7 @@ module _ (t : ℕ) where
       -- the kind
       (λ c κs. let s = c.before.before.before in first_word (under-call s).part s.requires.1.ready.at)
       -- a constant
-      (λ c. constant_made (under-kinded c.before) c.if1.true false)
+      (λ c. constant_made (under-kinded c.before) c.if-kind-lt2.true false)
       -- a run of nots
       (λ c κs. let read = c.before.before in
       (chain_asks (under-call (under-start read)).part (rule_there (under-kinded read)), omega arith))
@@ -458,12 +453,11 @@ module _ (t : ℕ) where
       (λ c. words_there (run_there (under-nots (under-odd c.before))))
       (λ c. search rules)
       (λ c κs. let run = under-odd c.before.before.before in
-      let counted = (under-start (under_not run)).pre.0 in
+      let counted = (under-start (under_not run)).requires.0 in
       (omega (arith, counted, run_shorter (under-nots run)), inner_asks (under-nots run)))
       (λ c. search rules)
-      (λ c. let answer = c.before.before in
-      let test = answer.before.before.before.before in
-      odd_made (under-nots (under-odd test)) false _ _ test.if3.true answer.plain.ensures)
+      (λ c. let test = c.before.before.before.before.before.before in
+      odd_made (under-nots (under-odd test)) false _ _ test.if-links-eq1.true c.plain.ensures)
       -- an even one
       (λ c. nodes_there (run_there (under-nots (under-even c))))
       (λ c. nodes_there (run_there (under-nots (under-even c))))
@@ -472,39 +466,38 @@ module _ (t : ℕ) where
       (λ c. words_there (run_there (under-nots (under-even c.before))))
       (λ c. search rules)
       (λ c κs. let run = under-even c.before.before.before in
-      let counted = (under-start (under_not run)).pre.0 in
+      let counted = (under-start (under_not run)).requires.0 in
       (omega (arith, counted, run_shorter (under-nots run)), inner_asks (under-nots run)))
       (λ c. search rules)
-      (λ c. let answer = c.before.before in
-      let test = answer.before.before.before.before in
-      even_made (under-nots (under-even test)) false _ _ test.if3.false answer.under.ensures)
+      (λ c. let test = c.before.before.before.before.before.before in
+      even_made (under-nots (under-even test)) false _ _ test.if-links-eq1.false c.under.ensures)
       -- a literal
       (λ c κs. let test = c.before in
-      literal_asks (under-kinded test.before.before.before) test.if4.true test.before.if2.false)
+      literal_asks (under-kinded test.before.before.before) test.if-kind-gt3.true test.if-kind-eq4.false)
       (λ c. search rules)
       (λ c. let test = c.before.before.before.before in
-      literal_made (under-kinded test.before.before.before) test.if4.true test.before.if2.false false _ _
-      c.before.before.literal.ensures)
+      literal_made (under-kinded test.before.before.before) test.if-kind-gt3.true test.if-kind-eq4.false false _ _
+      c.literal.ensures)
       -- a join: its right side is found
       (λ c κs. right_asks (join_there (under-joined c)))
-      (λ c. entries_there (join_there (under-joined c.before)) c.right.ensures)
-      (λ c. entries_there (join_there (under-joined c.before)) c.right.ensures)
+      (λ c. entries_there (join_there (under-joined c.before)) c.right-side.ensures)
+      (λ c. entries_there (join_there (under-joined c.before)) c.right-side.ensures)
       (λ c. search rules)
-      (λ c. bodies_there (join_there (under-joined c.before.before)) c.before.right.ensures)
-      (λ c. bodies_there (join_there (under-joined c.before.before)) c.before.right.ensures)
+      (λ c. bodies_there (join_there (under-joined c.before.before)) c.right-side.ensures)
+      (λ c. bodies_there (join_there (under-joined c.before.before)) c.right-side.ensures)
       (λ c. search rules)
       -- and walked
       (λ c κs. let side = c.before.before.before in
       let join = under-joined side.before in
-      let counted = (under-start (under-read side.before)).pre.0 in (
-        omega (arith, counted, right_shorter (join_there join) side.right.ensures),
-        right_side_asks join side.right.ensures,
+      let counted = (under-start (under-read side.before)).requires.0 in (
+        omega (arith, counted, right_shorter (join_there join) side.right-side.ensures),
+        right_side_asks join side.right-side.ensures,
       ))
       -- a number of it passes the limit
       (λ c. search rules)
       (λ c. search rules)
       (λ c. search rules)
-      (λ c. join_right_over (under-right c.before.before.before.before) c.enum_told.given.1)
+      (λ c. join_right_over (under-right c.before.before.before) c.in_default.is)
       -- or its left side is walked
       (λ c. entry_there _ (join_there (under-join c)).whole)
       (λ c. entry_there _ (join_there (under-join c)).whole)
@@ -517,21 +510,18 @@ module _ (t : ℕ) where
       (λ c κs. search rules)
       (λ c κs. let put = under-put c in
       let start = under-start (under-read (under-side (under_first put)).before) in (
-        omega (arith, start.pre.0, left_shorter (under-call start).part (join_there (under-join put)).whole),
+        omega (arith, start.requires.0, left_shorter (under-call start).part (join_there (under-join put)).whole),
         left_side_asks (under-made c),
       ))
       -- a number of it passes the limit
       (λ c. search rules)
       (λ c. search rules)
       (λ c. search rules)
-      (λ c. join_left_over (under_left c.before.before.before.before) c.enum-told2.given.1)
+      (λ c. join_left_over (under_left c.before.before.before) c.in_default-left.is)
       -- or both are joined
-      (λ c κs. let put = c.before.before in
-      both_asks (under_left put.before.before.before.before) put.left.given.1)
+      (λ c κs. both_asks (under_left c.before.before.before.before) c.in-Made-left.is)
       (λ c. search rules)
-      (λ c. let put = c.before.before.before.before.before in
-      join_both (under_left put.before.before.before.before) put.left.given.1 _ _
-      c.before.before.both.ensures)
+      (λ c. join_both (under_left c.before.before.before.before.before.before.before) c.in-Made-left.is _ _ c.both.ensures)
 
-pub +plain-under-spec : {M : Type 1} → statement M
-+plain-under-spec = close plain-measure under-measure (λ t. plain-meets t) (λ t. under-meets t)
+pub +plain_under_spec : {M : Type 1} → statement M
++plain_under_spec = close plain-measure under-measure (λ t. plain-meets t) (λ t. under-meets t)

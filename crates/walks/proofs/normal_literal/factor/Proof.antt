@@ -9,34 +9,34 @@ use Rattle.walks.proofs.SumLaws.{minus_fits, factor_minus, factor_plain}
 use Rattle.walks.proofs.normal_literal.factor.Statement.{statement}
 use Rattle.walks.proofs.normal_literal.factor.Tie as tie
 
-got : (c : tie.After-get) → SFits w32 c.get.result
-got c = sfits_of c.get.type-inv
+got : (c : tie.After-get-a) → SFits w32 c.get-a.result
+got c = sfits_of c.get-a.type_inv
 
-add-get : tie.Need-overflow-add-get
+add-get : tie.Need-overflow_add-at
 add-get c =
-    let (some, v) = c.before.requires in
-    omega (arith, some.there.inside, v, words_length c.before.args.bodies.now)
+    let (some, v) = c.requires in
+    omega (arith, some.there.inside, v, words_length c.args.bodies.now)
 
-get-requires : tie.Need-get-requires
-get-requires c κs = let (some, v) = c.before.requires in omega (arith, some.there.inside, v)
+get-requires : tie.Need-get-a-requires
+get-requires c κs = let (some, v) = c.requires in omega (arith, some.there.inside, v)
 
-sub-result : tie.Need-overflow-sub-result
+sub-result : tie.Need-overflow_sub-result
 sub-result c =
     let read = c.before in
-    let (some, v) = read.before.before.requires in
-    minus_fits v (got read) read.get.ensures some
+    let (some, v) = read.requires in
+    minus_fits v (got read) read.get-a.ensures some
 
-returns : tie.Need-returns
+returns : tie.Need-returns-then-minus
 returns c =
     let read = c.before in
-    let (some, v) = read.before.before.requires in
-    factor_minus v (got read) read.get.ensures _ c.if1.true some
+    let (some, v) = read.requires in
+    factor_minus v (got read) read.get-a.ensures _ c.if-minus.true some
 
-returns-2 : tie.Need-returns-2
+returns-2 : tie.Need-returns
 returns-2 c =
     let read = c.before in
-    let (some, v) = read.before.before.requires in
-    factor_plain v (got read) read.get.ensures _ c.if1.false
+    let (some, v) = read.requires in
+    factor_plain v (got read) read.get-a.ensures _ c.if-minus.false
 
-pub factor-spec : {M : Type 1} → statement M
-factor-spec = tie.close (tie.spec add-get get-requires sub-result returns returns-2)
+pub factor_spec : {M : Type 1} → statement M
+factor_spec = tie.close (tie.spec add-get get-requires sub-result returns returns-2)

@@ -9,82 +9,80 @@ use Rattle.walks.proofs.LiteralLaws.{divided_factor, divided_kind, divided_asks,
 use Rattle.walks.proofs.normal_literal.literal.Statement.{statement}
 use Rattle.walks.proofs.normal_literal.literal.Tie as tie
 
-natural-requires : tie.Need-natural-requires
-natural-requires c κs = omega (arith, literal_words c.before.before.requires)
+natural-requires : tie.Need-natural-kind-requires
+natural-requires c κs = omega (arith, literal_words c.requires)
 
-natural-requires-2 : tie.Need-natural-requires-2
-natural-requires-2 c κs = omega (arith, literal_words c.before.before.before.requires)
+natural-requires-2 : tie.Need-natural-k-requires
+natural-requires-2 c κs = omega (arith, literal_words c.requires)
 
 -- the ways back: to the start, and to where the kind and the divisor are read
-abbrev start : tie.After-natural2 → tie.Start
+abbrev start : tie.After-natural-k → tie.Start
 start c = c.before.before.before.before
 
-abbrev words-read : tie.Else2 → tie.After-natural2
+abbrev words-read : tie.Else-kind-eq10 → tie.After-natural-k
 words-read c = c.before.before
 
-read : (c : tie.After-natural2)
-    → LiteralRead (words (start c).args.bodies.now) c.before.natural.result c.natural2.result
-read c = record { kind_word = c.before.natural.ensures.1; divisor_word = c.natural2.ensures.1 }
+read : (c : tie.After-natural-k)
+    → LiteralRead (words (start c).args.bodies.now) c.natural-kind.result c.natural-k.result
+read c = record { kind_word = c.natural-kind.ensures.1; divisor_word = c.natural-k.ensures.1 }
 
 test-requires : tie.Need-test-requires
 test-requires c κs =
     let test = c.before in
-    positive_asks (read test.before) test.if1.true (start test.before).requires
+    positive_asks (read test.before) test.if-kind-eq5.true (start test.before).requires
 
-same_length : tie.Need-same-length
+same_length : tie.Need-shape_of-out-then-kind-eq5
 same_length c = search rules
 
-returns : tie.Need-returns
+returns : tie.Need-returns-then-kind-eq5
 returns c =
     let test = c.before.before.before.before in
-    positive_made (read test.before) test.if1.true _ _ _ c.before.before.test.ensures
+    positive_made (read test.before) test.if-kind-eq5.true _ _ _ c.test.ensures
 
 zero-requires : tie.Need-zero-requires
 zero-requires c κs =
-    let test = c.before in
-    let kind = test.before.before in
-    some_zero (read kind) test.if2.true (start kind).requires
+    let kind = c.before.before.before in
+    some_zero (read kind) c.if-kind-eq10.true (start kind).requires
 
-same-length-2 : tie.Need-same-length-2
+same-length-2 : tie.Need-shape_of-out-then-kind-eq10
 same-length-2 c = search rules
 
-returns-2 : tie.Need-returns-2
+returns-2 : tie.Need-returns-then-kind-eq10
 returns-2 c =
     let test = c.before.before.before.before in
-    zero_put (read test.before.before) test.if2.true _ _ _ c.before.before.zero.ensures
+    zero_put (read test.before.before) test.if-kind-eq10.true _ _ _ c.zero.ensures
 
-factor-requires : tie.Need-factor-requires
+factor-requires : tie.Need-factor-minus-requires
 factor-requires c κs =
     let kind = words-read c in
-    divided_factor (read kind) c.before.if1.false c.if2.false (start kind).pre
+    divided_factor (read kind) c.if-kind-eq5.false c.if-kind-eq10.false (start kind).requires
 
 traded-requires : tie.Need-traded-requires
 traded-requires c κs =
     let test = c.before in
     let kind = words-read test in
-    divided_kind (read kind) test.before.if1.false test.if2.false (start kind).pre
+    divided_kind (read kind) test.if-kind-eq5.false test.if-kind-eq10.false (start kind).requires
 
 test-requires-2 : tie.Need-test-requires-2
 test-requires-2 c κs =
     let test = c.before.before.before in
     let kind = words-read test in
-    divided_asks (read kind) test.before.if1.false test.if2.false (start kind).args.plainly
-    c.before.traded.ensures (start kind).pre
+    divided_asks (read kind) test.if-kind-eq5.false test.if-kind-eq10.false (start kind).args.plainly
+    c.traded.ensures (start kind).requires
 
-same-length-3 : tie.Need-same-length-3
+same-length-3 : tie.Need-shape_of-out
 same-length-3 c = search rules
 
-returns-3 : tie.Need-returns-3
+returns-3 : tie.Need-returns
 returns-3 c =
-    let told = c.before.before.before.before.before in
-    let test = told.before in
+    let test = c.before.before.before.before.before.before in
     let kind = words-read test in
-    divided_made (read kind) test.before.if1.false test.if2.false (start kind).args.plainly
-    c.before.before.before.before.traded.ensures _ _
-    (sfits_of {z = told.factor.result} told.factor.type-inv) told.factor.ensures c.before.before.test2.ensures
+    divided_made (read kind) test.if-kind-eq5.false test.if-kind-eq10.false (start kind).args.plainly
+    c.traded.ensures _ _
+    (sfits_of {z = c.factor-minus.result} c.factor-minus.type_inv) c.factor-minus.ensures c.test-2.ensures
 
-pub literal-spec : {M : Type 1} → statement M
-literal-spec =
+pub literal_spec : {M : Type 1} → statement M
+literal_spec =
     tie.close
     (tie.spec
     natural-requires
