@@ -1,6 +1,5 @@
 -- `bound::alike` meets its contract: the words looked at so far are the same.
 -- Assumes nothing.
-use Prim.Native.Nat.{◌-◌}
 use native.Mathlib.Omega.{arith}
 use Rattle.rules.specs.Calls.{words}
 use Rattle.bodies.proofs.BoundLaws.{alike_more, not_alike}

@@ -59,7 +59,8 @@ pub loop-b-preserved : goal.loop-b-preserved
 loop-b-preserved c = (
   omega (arith, less c),
   below_more _ _ c.loop-b.invariant.1
-      (λ same. they_differ c (subst (λ (r : Bound). Alike (words c.args.bodies.now) r.place c.args.b.place) (sym c.at.ensures) same)),
+      (λ same. they_differ c
+      (subst (λ (r : Bound). Alike (words c.args.bodies.now) r.place c.args.b.place) (sym c.at.ensures) same)),
 )
 
 pub returns : goal.returns

@@ -1,4 +1,3 @@
-use mathlib.Core.Path.{◌≡◌}
 use Prim.Native.Nat.{ℕ, ◌-◌, ◌<◌, ◌≤◌}
 use lib.ListN.{get_or}
 use Rattle.rules.specs.Calls.{words}

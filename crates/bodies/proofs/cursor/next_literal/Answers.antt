@@ -1,6 +1,6 @@
 -- `cursor::next_literal` meets its contract: from the place that the search has come to, the same literals remain.
 -- Assumes nothing.
-use Prim.Native.Nat.{◌-◌, ◌≤◌}
+use Prim.Native.Nat.{◌≤◌}
 use native.Mathlib.Omega.{arith}
 use Rattle.bodies.proofs.CursorLaws.{some_still, next_none, next_inside, next_some, next_found, next_step}
 use Rattle.bodies.proofs.cursor.next_literal.Goals as goal

@@ -1,7 +1,6 @@
 -- `lower::next_lower` meets its contract: the literals from `from` up to this place give no bound.
 -- Assumes nothing.
 use mathlib.Core.Path.{subst}
-use Prim.Native.Nat.{◌-◌}
 use native.Mathlib.Omega.{arith}
 use Rattle.bodies.specs.Bounds.{GivesBound}
 use Rattle.bodies.proofs.ScanLaws.{reached_here}

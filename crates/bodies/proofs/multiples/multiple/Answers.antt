@@ -1,6 +1,5 @@
 -- `multiples::multiple` meets its contract: m is the multiple of what the literals before this place bring.
 -- Assumes nothing.
-use Prim.Native.Nat.{◌-◌}
 use native.Mathlib.Omega.{arith}
 use Rattle.bodies.proofs.ScanLaws.{scan_start, scan_here, scan_step, scan_ended, scan_over}
 use Rattle.bodies.proofs.MultipleLaws.{Past, multiple_none, grown, small, past}

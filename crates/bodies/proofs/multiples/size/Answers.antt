@@ -8,4 +8,6 @@ pub returns-then-u-lt2147483648 : goal.returns-then-u-lt2147483648
 returns-then-u-lt2147483648 c = (size_low _ c.if-u-lt2147483648.true, c.requires)
 
 pub returns : goal.returns
-returns c = (size_high _ (omega (arith, c.if-u-lt2147483648.false)) c.requires, omega (arith, c.if-u-lt2147483648.false))
+returns c =
+    let high = c.if-u-lt2147483648.false in
+    (size_high _ (omega (arith, high)) c.requires, omega (arith, high))

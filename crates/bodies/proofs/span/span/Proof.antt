@@ -73,7 +73,8 @@ before-last-requires c κs =
     let test = c.before.before in
     let asked = test.before in
     let at = asked.before in
-    step_asks (come_to at) at.loop-before.kind at.loop-before.invariant.1 (λ none. omega (arith, asked.children.ensures, none))
+    step_asks (come_to at) at.loop-before.kind at.loop-before.invariant.1
+    (λ none. omega (arith, asked.children.ensures, none))
 
 -- where it comes to next
 come-further : (c : tie.After-before_last-before invariant-loop decreases-loop)
