@@ -83,9 +83,11 @@ unfolding chosen chosen_number chosen_place
 stands_behind (Constant b) s = tt
 stands_behind {es} {bs} {n} {p} (Join j a b) s =
     by_test (quantified b)
-    (further es bs n p 1 2 (chosen_number a) (chosen_place a) (chosen a) (stands_behind a (left j a b s)))
+    (further es bs n p 1 2 (chosen_number a) (chosen_place a) (chosen a)
+    (stands_behind {es = drop 1 es} {bs = drop 2 bs} {n = n + 1} {p = p + 2} a (left j a b s)))
     (further es bs n p (1 + count a) (2 + weight a) (chosen_number b) (chosen_place b) (chosen b)
-    (stands_behind b (right j a b s)))
+    (stands_behind {es = drop (1 + count a) es} {bs = drop (2 + weight a) bs} {n = n + (1 + count a)}
+    {p = p + (2 + weight a)} b (right j a b s)))
   where
     by_test : (t : Bool) → StandsBehind es bs n p (1 + chosen_number a) (2 + chosen_place a) (chosen a)
         → StandsBehind es bs n p (1 + count a + chosen_number b) (2 + weight a + chosen_place b) (chosen b)
@@ -95,11 +97,13 @@ stands_behind {es} {bs} {n} {p} (Join j a b) s =
     by_test true left_one right_one = right_one
     by_test false left_one right_one = left_one
 stands_behind {es} {bs} {n} {p} (Not a) s =
-    further es bs n p 1 1 (chosen_number a) (chosen_place a) (chosen a) (stands_behind a (under_not a s))
+    further es bs n p 1 1 (chosen_number a) (chosen_place a) (chosen a)
+    (stands_behind {es = drop 1 es} {bs = drop 1 bs} {n = n + 1} {p = p + 1} a (under_not a s))
 stands_behind (Literal t u) s = tt
 stands_behind {es} {bs} {n} {p} (Bind q v a) s =
     by_test (quantified a)
-    (further es bs n p 1 2 (chosen_number a) (chosen_place a) (chosen a) (stands_behind a (under_bind q v a s)))
+    (further es bs n p 1 2 (chosen_number a) (chosen_place a) (chosen a)
+    (stands_behind {es = drop 1 es} {bs = drop 2 bs} {n = n + 1} {p = p + 2} a (under_bind q v a s)))
   where
     by_test : (t : Bool) → StandsBehind es bs n p (1 + chosen_number a) (2 + chosen_place a) (chosen a)
         → StandsBehind es bs n p (elim t [ true ↦ 1 + chosen_number a | false ↦ 0 ])

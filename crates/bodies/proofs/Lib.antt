@@ -11,8 +11,3 @@ pub mod BoundLaws
 pub mod BoundCount
 pub mod LowerLaws
 pub mod KeptLaws
-pub mod ByWalk
-pub mod BoundRow
-pub mod WalkSteps
-pub mod LentAgain
-pub mod LocalArray

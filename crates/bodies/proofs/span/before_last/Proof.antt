@@ -1,60 +1,59 @@
 -- `span::before_last` meets its contract: the right side of a join is found; any other root is alone before its child.
+-- The test of the code is cited by what it says, not by its name, which holds the number that it compares with.
 -- Assumes nothing.
-use mathlib.Core.Path.{sym, ◌∙◌}
+use mathlib.Core.Path.{◌≡◌}
+use native.Mathlib.Omega.{arith}
 use borrow.Author.Rules.{rules}
+use lib.ListN.{get_or}
 use Rattle.rules.specs.Calls.{words}
+use Rattle.tables.specs.Reads.{arities}
 use Rattle.bodies.proofs.SpanLaws.{RootAt, join_stands, ends_only, RightFound, right_behind, ends_right}
 use Rattle.bodies.proofs.span.before_last.Statement.{statement}
 use Rattle.bodies.proofs.span.before_last.Tie as tie
 
 -- what is known of the root, and once its right side is found
 root-at : (c : tie.After-children)
-    → let a = c.before.before.before.args in
+    → let a = c.args in
     RootAt (words a.entries.now) (words a.bodies.now) a.node a.place a.kind
 root-at c =
-    let (standing, few, read, some) = c.before.before.before.requires in
+    let (standing, few, read, some) = c.requires in
     record { standing = standing; read = read }
 
-right_found : (c : tie.After-right)
-    → let a = c.before.before.before.before.before.args in
-    RightFound (words a.entries.now) (words a.bodies.now) a.node a.place a.kind c.right.result
-right_found c =
-    let asked = c.before.before in
-    record {
-      root = root-at asked;
-      two = sym asked.children.ensures ∙ c.before.if1.true;
-      found = c.right.ensures;
-    }
+right_found : (c : tie.After-right-side)
+    → let a = c.args in
+    RightFound (words a.entries.now) (words a.bodies.now) a.node a.place a.kind c.right-side.result
+right_found c = record {
+  root = root-at c.before.before;
+  two = omega (arith, c.children.ensures, c.before);
+  found = c.right-side.ensures;
+}
 
 children-requires : tie.Need-children-requires
 children-requires c κs = search rules
 
-right-requires : tie.Need-right-requires
+right-requires : tie.Need-right-side-requires
 right-requires c κs =
     let asked = c.before in
-    let two = sym asked.children.ensures ∙ c.if1.true in
-    (join_stands (root-at asked) two, asked.before.before.before.requires.1)
-
-sub-t9 : tie.Need-overflow-sub-t9
-sub-t9 c = (right_behind (right_found c.before)).0
-
-sub-t10 : tie.Need-overflow-sub-t10
-sub-t10 c = (right_behind (right_found c.before.before)).1
-
-returns : tie.Need-returns
-returns c = ends_right (right_found c.before.before)
+    let two : get_or arities c.args.kind 0 ≡ 2 = omega (arith, c.children.ensures, c) in
+    (join_stands (root-at asked) two, asked.requires.1)
 
 width-requires : tie.Need-width-requires
 width-requires c κs = search rules
 
-returns-2 : tie.Need-returns-2
-returns-2 c =
+returns : tie.Need-returns
+returns c =
     let asked = c.before.before in
-    let (standing, few, read, some) = asked.before.before.before.requires in
-    ends_only (root-at asked) some (λ two. c.before.if1.false (asked.children.ensures ∙ two)) _
-    c.width.ensures.0
+    let (standing, few, read, some) = asked.requires in
+    ends_only (root-at asked) some (λ two. omega (arith, asked.children.ensures, two, c.before)) _ c.width.ensures.0
 
-pub before-last-spec : {M : Type 1} → statement M
-before-last-spec =
+pub before_last_spec : {M : Type 1} → statement M
+before_last_spec =
     tie.close
-    (tie.spec children-requires right-requires sub-t9 sub-t10 returns width-requires returns-2)
+    (tie.spec
+    children-requires
+    right-requires
+    (λ c. (right_behind (right_found c.before)).0)
+    (λ c. (right_behind (right_found c.before.before)).1)
+    (λ c. ends_right (right_found c.before.before))
+    width-requires
+    returns)
