@@ -12,17 +12,17 @@ use Rattle.tables.proofs.KindLaws.{literal_kinds}
 use Rattle.judging.proofs.judge.is_literal.Statement.{statement}
 use Rattle.judging.proofs.judge.is_literal.Tie as tie
 
-returns : tie.Need-returns
+returns : tie.Need-returns-then-kind-lt5
 returns c = record {
   of_test = λ t e. absurd (omega (arith, e, literal_kinds t));
   of_bind = λ q e. refl;
   is_high = λ e. absurd (subst T (sym e) tt);
 }
 
-returns-2 : tie.Need-returns-2
+returns-2 : tie.Need-returns
 returns-2 c = record {
-  of_test = λ t e. ap not (ne_eqb (c.before.args.kind / 2) 4 (apart t e));
-  of_bind = λ q e. ap not (eq-eqb (c.before.args.kind / 2) 4 (same q e));
+  of_test = λ t e. ap not (ne_eqb (c.args.kind / 2) 4 (apart t e));
+  of_bind = λ q e. ap not (eq-eqb (c.args.kind / 2) 4 (same q e));
   is_high = λ e. omega arith;
 }
   where
@@ -36,5 +36,5 @@ returns-2 c = record {
     same for_some e = omega arith
     same for_all e = omega arith
 
-pub is-literal-spec : {M : Type 1} → statement M
-is-literal-spec = tie.close (tie.spec returns returns-2)
+pub is_literal_spec : {M : Type 1} → statement M
+is_literal_spec = tie.close (tie.spec returns returns-2)

@@ -17,39 +17,39 @@ rest : (c : tie.Start)
     → let a = c.args in read (rem_z (read a.c) (to_z w64 a.d)) ≡ rem_z a.c (pos a.d)
 rest c = rest_read c.requires.0 c.args.c c.ranges.c c.requires.1
 
-cast-r : tie.Need-overflow-cast-r
+cast-r : tie.Need-overflow_cast-r
 cast-r c = search rules
 
-rem-r : tie.Need-nonzero-rem-r
+rem-r : tie.Need-nonzero_rem-r
 rem-r c = divides_asks c.ranges.c c.requires.0 c.requires.1 c.requires.2
 
-cast-result : tie.Need-overflow-cast-result
+cast-result : tie.Need-overflow_cast-result
 cast-result c =
     let start = c.before in
-    rest_casts start.requires.0 start.args.c _ (rest start) start.requires.1 c.if1.true
+    rest_casts start.requires.0 start.args.c _ (rest start) start.requires.1 c.if-r-gt0.true
 
-sub-result : tie.Need-overflow-sub-result
+sub-result : tie.Need-overflow_sub-result
 sub-result c = let start = c.before in rest_less start.requires.0 start.args.c _ (rest start)
 
-returns : tie.Need-returns
-returns c = let start = c.before in distance_up start.requires.0 start.args.c _ (rest start) c.if1.true
+returns : tie.Need-returns-then-r-gt0
+returns c = let start = c.before in distance_up start.requires.0 start.args.c _ (rest start) c.if-r-gt0.true
 
-sub-result-2 : tie.Need-overflow-sub-result-2
+sub-result-2 : tie.Need-overflow_sub-result-2
 sub-result-2 c =
     let start = c.before in
-    turned_fits start.requires.0 start.args.c _ (rest start) start.requires.1 c.if1.false
+    turned_fits start.requires.0 start.args.c _ (rest start) start.requires.1 c.if-r-gt0.false
 
-cast-result-2 : tie.Need-overflow-cast-result-2
+cast-result-2 : tie.Need-overflow_cast-result-2
 cast-result-2 c =
     let start = c.before in
-    turned_casts start.requires.0 start.args.c _ (rest start) start.requires.1 c.if1.false
+    turned_casts start.requires.0 start.args.c _ (rest start) start.requires.1 c.if-r-gt0.false
 
-returns-2 : tie.Need-returns-2
+returns-2 : tie.Need-returns
 returns-2 c =
     let start = c.before in
-    distance_down start.requires.0 start.args.c _ (rest start) start.requires.1 c.if1.false
+    distance_down start.requires.0 start.args.c _ (rest start) start.requires.1 c.if-r-gt0.false
 
-pub distance-spec : {M : Type 1} → statement M
-distance-spec =
+pub distance_spec : {M : Type 1} → statement M
+distance_spec =
     tie.close
     (tie.spec cast-r rem-r cast-result sub-result returns sub-result-2 cast-result-2 returns-2)
