@@ -2,7 +2,6 @@
 -- Assumes nothing.
 use mathlib.Core.Path.{ap, ◌∙◌}
 use native.Mathlib.Omega.{arith}
-use Prim.Native.Nat.{◌-◌}
 use Rattle.rules.specs.Calls.{signed}
 use Rattle.judging.proofs.NotLaws.{more_nots, no_more_nots, nots_inside}
 use Rattle.judging.proofs.judge.nots.Goals as goal

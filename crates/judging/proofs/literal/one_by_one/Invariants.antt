@@ -1,7 +1,5 @@
 use Prim.Native.Nat.{◌-◌, ◌≤◌}
-use lib.IntN.{ℤ, pos, ◌+ℤ◌, ◌*ℤ◌}
-use mir.Syntax.{w64}
-use mir.Val.{to_z}
+use lib.IntN.{pos, ◌+ℤ◌, ◌*ℤ◌}
 use Rattle.rules.specs.Rule.{Test, passes}
 use Rattle.literals.specs.Literal.{Marked}
 use Rattle.judging.proofs.TakenLaws.{Taken}

@@ -1,7 +1,6 @@
 -- `literal::varies` meets its contract: so far as they were seen, the words behind c are zero.
 -- Assumes nothing.
 use native.Mathlib.Omega.{arith}
-use Prim.Native.Nat.{◌-◌}
 use borrow.Author.Rules.{sfits_of}
 use mir.Syntax.{w64}
 use mir.Facts.{to_z-of_z}

@@ -1,6 +1,4 @@
 use Prim.Native.Nat.{◌-◌, ◌≤◌}
-use mir.Syntax.{w64}
-use mir.Val.{to_z}
 use Rattle.rules.specs.Calls.{words}
 use Rattle.judging.proofs.FactorLaws.{Bare}
 use Rattle.judging.proofs.literal.varies.Given as goal

@@ -1,7 +1,6 @@
 -- `masks::comb` meets its contract: each turn doubles how far the mask is right.
 -- Assumes nothing.
 use native.Mathlib.Omega.{arith}
-use Prim.Native.Nat.{◌-◌}
 use Rattle.judging.proofs.MultipleLaws.{begun, doubled}
 use Rattle.judging.proofs.masks.comb.Goals as goal
 
