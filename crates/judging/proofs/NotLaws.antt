@@ -64,8 +64,8 @@ unfolding nots
 more_nots zero a h e s = first_four a e s
 more_nots (suc i) (Constant b) h e s = absurd (omega arith)
 more_nots (suc i) (Join j x y) h e s = absurd (omega arith)
-more_nots {bs = bs} (suc i) (Not x) h e s =
-    let more = more_nots i x (omega arith) (at_drop bs i ∙ e) (under_not x s) in omega arith
+more_nots {es} {bs} (suc i) (Not x) h e s =
+    let more = more_nots {es = drop 1 es} i x (omega arith) (at_drop bs i ∙ e) (under_not x s) in omega arith
 more_nots (suc i) (Literal t z) h e s = absurd (omega arith)
 more_nots (suc i) (Bind q v x) h e s = absurd (omega arith)
 
@@ -82,8 +82,8 @@ no_more_nots {kind = kind} zero a h e other s = by a (shape kind e a s)
     by a (bind q v x i w z) = refl
 no_more_nots (suc i) (Constant b) h e other s = absurd (omega arith)
 no_more_nots (suc i) (Join j x y) h e other s = absurd (omega arith)
-no_more_nots {bs = bs} (suc i) (Not x) h e other s =
-    ap suc (no_more_nots i x (omega arith) (at_drop bs i ∙ e) other (under_not x s))
+no_more_nots {es} {bs} (suc i) (Not x) h e other s =
+    ap suc (no_more_nots {es = drop 1 es} i x (omega arith) (at_drop bs i ∙ e) other (under_not x s))
 no_more_nots (suc i) (Literal t z) h e other s = absurd (omega arith)
 no_more_nots (suc i) (Bind q v x) h e other s = absurd (omega arith)
 
@@ -111,7 +111,7 @@ bare_stands (Join j x y) s = moved (Join j x y) refl refl (omega arith) (omega a
 bare_stands {es} {bs} {n} {p} (Not x) s =
     moved (bare x) (drop-drop (nots x) 1 es ∙ ap (λ (m : ℕ). drop m es) (one_more (nots x)))
     (drop-drop (nots x) 1 bs ∙ ap (λ (m : ℕ). drop m bs) (one_more (nots x))) (omega arith) (omega arith)
-    (bare_stands x (under_not x s))
+    (bare_stands {es = drop 1 es} x (under_not x s))
   where
     one_more : (m : ℕ) → 1 + m ≡ suc m
     one_more m = omega arith

@@ -9,20 +9,19 @@ use lib.Dec.{T}
 use Rattle.rules.specs.Rule.{Quantifier, for_some, for_all, Test, positive, divisible, is_zero}
 use Rattle.tables.proofs.Inversion.{test_kind, bind_kind}
 use Rattle.tables.proofs.KindLaws.{literal_kinds}
-use Rattle.judging.proofs.judge.is_literal.Statement.{statement}
-use Rattle.judging.proofs.judge.is_literal.Tie as tie
+use Rattle.judging.proofs.judge.is_literal.Goals as goal
 
-returns : tie.Need-returns
-returns c = record {
+pub returns-then-kind-lt5 : goal.returns-then-kind-lt5
+returns-then-kind-lt5 c = record {
   of_test = λ t e. absurd (omega (arith, e, literal_kinds t));
   of_bind = λ q e. refl;
   is_high = λ e. absurd (subst T (sym e) tt);
 }
 
-returns-2 : tie.Need-returns-2
-returns-2 c = record {
-  of_test = λ t e. ap not (ne_eqb (c.before.args.kind / 2) 4 (apart t e));
-  of_bind = λ q e. ap not (eq-eqb (c.before.args.kind / 2) 4 (same q e));
+pub returns : goal.returns
+returns c = record {
+  of_test = λ t e. ap not (ne_eqb (c.args.kind / 2) 4 (apart t e));
+  of_bind = λ q e. ap not (eq-eqb (c.args.kind / 2) 4 (same q e));
   is_high = λ e. omega arith;
 }
   where
@@ -35,6 +34,3 @@ returns-2 c = record {
     same : {kind : ℕ} (q : Quantifier) → kind ≡ bind_kind q → kind / 2 ≡ 4
     same for_some e = omega arith
     same for_all e = omega arith
-
-pub is-literal-spec : {M : Type 1} → statement M
-is-literal-spec = tie.close (tie.spec returns returns-2)

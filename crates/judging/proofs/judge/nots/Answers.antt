@@ -1,0 +1,45 @@
+-- `judge::nots` meets its contract: so far as they were passed, there are nots.
+-- Assumes nothing.
+use mathlib.Core.Path.{ap, ◌∙◌}
+use native.Mathlib.Omega.{arith}
+use Rattle.rules.specs.Calls.{signed}
+use Rattle.judging.proofs.NotLaws.{more_nots, no_more_nots, nots_inside}
+use Rattle.judging.proofs.judge.nots.Goals as goal
+
+pub loop-n-init : goal.loop-n-init
+loop-n-init c = λ es m p a s. omega arith
+
+pub natural-requires : goal.natural-requires
+natural-requires c =
+    let some = c.requires in
+    omega (arith, (nots_inside some.rule some.stands).1, c.loop-n.invariant _ _ _ some.rule some.stands)
+
+pub overflow_add-n : goal.overflow_add-n
+overflow_add-n c =
+    let some = c.requires in
+    omega (
+      arith,
+      (nots_inside some.rule some.stands).1,
+      c.loop-n.invariant _ _ _ some.rule
+          some.stands,
+      some.few,
+    )
+
+pub loop-n-smaller : goal.loop-n-smaller
+loop-n-smaller c =
+    let some = c.requires in
+    omega (
+      arith,
+      (nots_inside some.rule some.stands).1,
+      c.loop-n.invariant _ _ _ some.rule
+          some.stands,
+    )
+
+pub loop-n-preserved : goal.loop-n-preserved
+loop-n-preserved c = λ es m p a s.
+    more_nots _ a (c.loop-n.invariant es m p a s)
+    (c.natural.ensures.1 ∙ ap signed c.loop-n-test.true) s
+
+pub returns : goal.returns
+returns c = λ es m p a s.
+    no_more_nots _ a (c.loop-n.invariant es m p a s) c.natural.ensures.1 c.loop-n-test.false s
