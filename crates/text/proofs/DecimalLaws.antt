@@ -12,6 +12,7 @@ use lib.Dec.{ltb}
 use lib.ListN.{length, length-append}
 use Rattle.rules.specs.Calls.{signed}
 use Rattle.tables.proofs.WordLaws.{signed_low, signed_high}
+use Rattle.text.proofs.PlacedLaws.{placed_then}
 use Rattle.text.specs.Decimal.{digit, spelled, decimal, number}
 
 -- ---- the tenth and the last digit
@@ -88,3 +89,6 @@ few_of_bits u h = go (ltb u 2147483648) refl
     go false e =
         let high = ltb-false u 2147483648 e in
         omega (arith, ap length (number_high u high), few_of_word (4294967295 - u + 1) (omega arith))
+
+-- a number by the sign that its bits tell, and text put behind text
+pub ruleset by_sign = (number_low, number_high, placed_then)

@@ -19,6 +19,7 @@ pub fn natural(out: &mut [u8], at: usize, n: u32) -> usize
 }
 
 // The number that has these 32 bits, with its sign where it is below 0.
+#[tactic(auto, using(crate::proofs::DecimalLaws::by_sign))]
 pub fn whole(out: &mut [u8], at: usize, bits: u32) -> usize
     requires { at + length (number (signed bits)) ≤ length out.old }
     ensures { Placed out.old at (number (signed bits)) out.new result }

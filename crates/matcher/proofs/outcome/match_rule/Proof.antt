@@ -39,10 +39,10 @@ calls = (
 )
 
 -- the ways back: to the start, to where no number is due
-abbrev start : lts.After-due calls reads.Pre reads.Post → lts.Start calls reads.Pre reads.Post
+abbrev start : lts.After-due-number calls reads.Pre reads.Post → lts.Start calls reads.Pre reads.Post
 start c = c.before.before.before.before
 
-abbrev settled : lts.After-verdict calls reads.Pre reads.Post → lts.Else1 calls reads.Pre reads.Post
+abbrev settled : lts.After-verdict calls reads.Pre reads.Post → lts.Else-number-ne0 calls reads.Pre reads.Post
 settled c = c.before.before
 
 -- the rule whose table this is
@@ -50,28 +50,28 @@ table : (c : lts.Start calls reads.Pre reads.Post) → (r : Rule) × TableOf c.a
 table c = passed _ _ refl c.requires
 
 -- whether it has a quantifier
-has-quantifier : (c : lts.After-due calls reads.Pre reads.Post)
-    → quantified (table (start c)).0 ≡ c.before.before.quantified.result
+has-quantifier : (c : lts.After-due-number calls reads.Pre reads.Post)
+    → quantified (table (start c)).0 ≡ c.quantified-quantified.result
 has-quantifier c =
-    let (r, t) = table (start c) in sym (c.before.before.quantified.ensures r t.decodes)
+    let (r, t) = table (start c) in sym (c.quantified-quantified.ensures r t.decodes)
 
 -- the six values
 abbrev values : (c : lts.Start calls reads.Pre reads.Post) → List ℤ
 values c = c.args.s1 ∷ c.args.s2 ∷ c.args.s3 ∷ c.args.s4 ∷ c.args.s5 ∷ c.args.s6 ∷ []
 
 -- whether they are in range
-in_range : (c : lts.After-due calls reads.Pre reads.Post)
-    → all_within most_value (values (start c)) ≡ c.before.all-within.result
+in_range : (c : lts.After-due-number calls reads.Pre reads.Post)
+    → all_within most_value (values (start c)) ≡ c.all_within-in_range.result
 in_range c =
     let f = (start c).ranges in
-    sym (within_again f.s1 f.s2 f.s3 f.s4 f.s5 f.s6 c.before.all-within.ensures)
+    sym (within_again f.s1 f.s2 f.s3 f.s4 f.s5 f.s6 c.all_within-in_range.ensures)
 
 -- no number is due: it has none, and they are
-none : (c : lts.Else1 calls reads.Pre reads.Post)
-    → (c.before.before.before.quantified.result ≡ false) × (c.before.before.all-within.result ≡ true)
-none c = none_due _ _ _ c.before.due.ensures c.if1.false
+none : (c : lts.Else-number-ne0 calls reads.Pre reads.Post)
+    → (c.quantified-quantified.result ≡ false) × (c.all_within-in_range.result ≡ true)
+none c = none_due _ _ _ c.due-number.ensures c.if-number-ne0.false
 
-free : (c : lts.Else1 calls reads.Pre reads.Post) → quantified (table (start c.before)).0 ≡ false
+free : (c : lts.Else-number-ne0 calls reads.Pre reads.Post) → quantified (table (start c.before)).0 ≡ false
 free c = has-quantifier c.before ∙ (none c).0
 
 -- what the walk says of the rule
@@ -80,7 +80,7 @@ says : (c : lts.After-verdict calls reads.Pre reads.Post)
     c.verdict.result ≡ holds (table began).0 (choice (values began)))
 says c =
     let began = start (settled c).before in
-    let f = began.fits in
+    let f = began.ranges in
     let (r, t) = table began in
     c.verdict.ensures r (matchable t (free (settled c)))
     ∙ ap (λ (vs : List ℤ). holds r (choice vs)) (values_again f.s1 f.s2 f.s3 f.s4 f.s5 f.s6)
@@ -94,25 +94,25 @@ answer c b e =
     ap given (sym e ∙ says c)
     ∙ sym (answered t _ (free none-is-due) (in_range none-is-due.before ∙ (none none-is-due).1))
 
-quantified-requires : tie.Need-quantified-requires
+quantified-requires : tie.Need-quantified-quantified-requires
 quantified-requires c κs = search rules
 
-all-within-requires : tie.Need-all-within-requires
+all-within-requires : tie.Need-all_within-in_range-requires
 all-within-requires c κs = search rules
 
-due-requires : tie.Need-due-requires
+due-requires : tie.Need-due-number-requires
 due-requires c κs = search rules
 
-returns : tie.Need-returns
+returns : tie.Need-returns-then-number-ne0
 returns c =
     let judged = c.before in
     let (r, t) = table (start judged) in
-    sym (due_refused t _ _ _ _ (has-quantifier judged) (in_range judged) judged.due.ensures c.if1.true)
+    sym (due_refused t _ _ _ _ (has-quantifier judged) (in_range judged) judged.due-number.ensures c.if-number-ne0.true)
 
-add-verdict : tie.Need-overflow-add-verdict
+add-verdict : tie.Need-overflow_add-n
 add-verdict c = let (r, t) = table (start c.before) in omega (arith, table_inside t, table_most t)
 
-slice-aggregate-verdict : tie.Need-slice-aggregate-verdict
+slice-aggregate-verdict : tie.Need-slice_bounds-verdict-end
 slice-aggregate-verdict c = search rules
 
 verdict-requires : tie.Need-verdict-requires
@@ -120,17 +120,17 @@ verdict-requires c κs =
     let none-is-due = c.before in
     let (r, t) = table (start none-is-due.before) in (
       record { rule = r; at = matchable t (free none-is-due) },
-      (refl, were_within (none none-is-due).1 none-is-due.before.before.all-within.ensures),
+      (refl, were_within (none none-is-due).1 none-is-due.all_within-in_range.ensures),
     )
 
-returns-2 : tie.Need-returns-2
-returns-2 c = answer c.before true c.if2.true
+returns-2 : tie.Need-returns-then-verdict
+returns-2 c = answer c.before true c.if-verdict.true
 
-returns-3 : tie.Need-returns-3
-returns-3 c = answer c.before false c.if2.false
+returns-3 : tie.Need-returns
+returns-3 c = answer c.before false c.if-verdict.false
 
-pub match-rule-spec : {M : Type 1} → statement M
-match-rule-spec =
+pub match_rule_spec : {M : Type 1} → statement M
+match_rule_spec =
     tie.close
     (tie.spec
     quantified-requires
