@@ -199,7 +199,7 @@ module _ {z : ℤ} (f : SFits w32 z) where
   wide_fits = rw (to_z-of_z f) (sfits_widen tt f)
 
   wide_is : wide z ≡ z
-  wide_is = rw (to_z-of_z f) (to_z-of_z (sfits_widen tt f))
+  wide_is = rw (to_z-of_z f) (to_z-of_z {w = w64} (sfits_widen tt f))
 
   module _ (small : nat_abs (pos 0 -ℤ z) ≤ limit) where
     pub negated_fits : SFits w64 (pos 0 -ℤ wide z)
@@ -211,7 +211,7 @@ module _ {z : ℤ} (f : SFits w32 z) where
 -- a word that a call gives is read back from its bits
 module _ (z : ℤ) (ok : mag z < 2 ^ hbits w64) where
   pub word_back : {a : ℤ} → z ≡ a → to_z w64 (of_z w64 z) ≡ a
-  word_back e = to_z-of_z (sfits_of {z = z} ok) ∙ e
+  word_back e = to_z-of_z {w = w64} (sfits_of {z = z} ok) ∙ e
 
   module _ (small : nat_abs z ≤ limit) (j : ℕ) (few : j ≤ most_period) where
     added : to_z w64 (of_z w64 z) +ℤ to_z w64 j ≡ z +ℤ pos j

@@ -10,72 +10,69 @@ use Rattle.steps.proofs.ThereLaws.{same_room}
 use Rattle.steps.proofs.full.at_bounds.Statement.{statement}
 use Rattle.steps.proofs.full.at_bounds.Tie as tie
 
-abbrev invariant-loop : tie.invariant-loop
+abbrev invariant-loop : tie.invariant-loop-i
 invariant-loop entries bodies node place x j m places masks k out₀ b i₀ f₀ out i f =
     (i ≤ k) × (length out ≡ length out₀)
     × FromBound (words entries) (words bodies) node place x j m places masks k (words out₀) b f₀ (words out) i f
 
-abbrev decreases-loop : tie.decreases-loop
+abbrev decreases-loop : tie.decreases-loop-i
 decreases-loop entries bodies node place x j m places masks k out₀ b i₀ f₀ out i f = i
 
 -- the ways back: from the place of a bound to the loop's test, and from there to the start
-abbrev test : tie.After-place invariant-loop decreases-loop → tie.In-loop invariant-loop decreases-loop
+abbrev test : tie.After-place-p invariant-loop decreases-loop → tie.In-loop-i invariant-loop decreases-loop
 test c = c.before.before.before
 
-abbrev start : tie.In-loop invariant-loop decreases-loop → tie.Start invariant-loop decreases-loop
+abbrev start : tie.In-loop-i invariant-loop decreases-loop → tie.Start invariant-loop decreases-loop
 start c = c.before.before.before.before.before.before.before
 
-loop-holds : tie.Need-loop-init invariant-loop decreases-loop
+loop-holds : tie.Need-loop-i-init invariant-loop decreases-loop
 loop-holds c = (omega arith, refl, no_bound_yet)
 
-sub-i : tie.Need-overflow-sub-i invariant-loop decreases-loop
-sub-i c = omega (arith, c.loop-test.true)
+sub-i : tie.Need-overflow_sub-i invariant-loop decreases-loop
+sub-i c = omega (arith, c.loop-i-test.true)
 
 at-requires : tie.Need-at-requires invariant-loop decreases-loop
 at-requires c κs =
-    omega (arith, c.loop-test.true, c.before.loop.invariant.0, (start c).requires.at_bounds.judged.1)
+    omega (arith, c.loop-i-test.true, c.loop-i.invariant.0, (start c).requires.at_bounds.judged.1)
 
-has-requires : tie.Need-has-requires invariant-loop decreases-loop
-has-requires c κs = (start c.before).pre.at_bounds.judged.0
+has-requires : tie.Need-has-told-requires invariant-loop decreases-loop
+has-requires c κs = (start c.before).requires.at_bounds.judged.0
 
-place-requires : tie.Need-place-requires invariant-loop decreases-loop
+place-requires : tie.Need-place-p-requires invariant-loop decreases-loop
 place-requires c κs =
     let at = c.before.before in
-    omega (arith, at.loop-test.true, at.before.loop.invariant.0, (start at).requires.at_bounds.bounds_at.held)
+    omega (arith, at.loop-i-test.true, at.loop-i.invariant.0, (start at).requires.at_bounds.bounds_at.held)
 
-full-at-requires : tie.Need-full-at-requires invariant-loop decreases-loop
+full-at-requires : tie.Need-full_at-f-requires invariant-loop decreases-loop
 full-at-requires c κs =
     let found = c.before in
-    let told = found.before in
     let at = test found in
-    full_asks at.before.loop.inv.2 (omega (arith, at.loop-test.taken)) at.before.loop.inv.0
-    found.place.ensures told.before.at.ensures told.has.ensures (start at).pre
+    full_asks at.loop-i.invariant.2 (omega (arith, at.loop-i-test.taken)) at.loop-i.invariant.0
+    found.place-p.ensures found.at.ensures found.has-told.ensures (start at).requires
 
-loop-less : tie.Need-loop-smaller invariant-loop decreases-loop
-loop-less c = omega (arith, (test c.before.before.before.before).loop-test.taken)
+loop-less : tie.Need-loop-i-smaller invariant-loop decreases-loop
+loop-less c = omega (arith, (test c.before.before.before.before).loop-i-test.taken)
 
-loop-again : tie.Need-loop-preserved invariant-loop decreases-loop
+loop-again : tie.Need-loop-i-preserved invariant-loop decreases-loop
 loop-again c =
-    let put = c.before.before in
-    let found = put.before.before in
-    let told = found.before in
+    let found = c.before.before.before.before in
     let at = test found in
-    let inv = at.before.loop.inv in
-    let kept = put.full_at.auto.1.1.1.1.1.1.1.1.0 ∙ inv.1 in (
+    let inv = at.loop-i.invariant in
+    let kept = c.full_at-f.auto.out ∙ inv.1 in (
       omega (arith, inv.0),
       kept,
-      full_done inv.2 (omega (arith, at.loop-test.taken)) inv.0 found.place.ensures
-          told.before.at.ensures told.has.ensures _ _ (same_room _ _ kept) put.full_at.ensures,
+      full_done inv.2 (omega (arith, at.loop-i-test.taken)) inv.0 found.place-p.ensures
+          found.at.ensures found.has-told.ensures _ _ (same_room _ _ kept) c.full_at-f.ensures,
     )
 
-same_length : tie.Need-same-length invariant-loop decreases-loop
-same_length c = c.before.loop.invariant.1
+same_length : tie.Need-shape_of-out invariant-loop decreases-loop
+same_length c = c.loop-i.invariant.1
 
 returns : tie.Need-returns invariant-loop decreases-loop
-returns c = every_bound _ _ _ c.loop-test.false c.before.loop.invariant.2
+returns c = every_bound _ _ _ c.loop-i-test.false c.loop-i.invariant.2
 
-pub at-bounds-spec : {M : Type 1} → statement M
-at-bounds-spec =
+pub at_bounds_spec : {M : Type 1} → statement M
+at_bounds_spec =
     tie.close
     (tie.spec
     invariant-loop

@@ -13,104 +13,101 @@ use Rattle.steps.proofs.FullLaws.{full_block_asks, full_block_done}
 use Rattle.steps.proofs.full.full_blocks.Statement.{statement}
 use Rattle.steps.proofs.full.full_blocks.Tie as tie
 
-abbrev invariant-loop : tie.invariant-loop
+abbrev invariant-loop : tie.invariant-loop-j
 invariant-loop entries bodies node place x period places masks₀ k out₀ b j₀ f₀ masks out j f =
     (j ≤ period) × (length out ≡ length out₀) × (length masks ≡ length masks₀)
     × FullDone (words entries) (words bodies) node place x period places k (words out₀) b (words out) j f
 
-abbrev decreases-loop : tie.decreases-loop
+abbrev decreases-loop : tie.decreases-loop-j
 decreases-loop entries bodies node place x period places masks₀ k out₀ b j₀ f₀ masks out j f = j
 
 -- the ways back: from the masks of a block to its width, from there to the loop's test, and to the start
-abbrev cut : tie.After-false-at-bounds invariant-loop decreases-loop → tie.After-width invariant-loop decreases-loop
+abbrev cut : tie.After-false_at_bounds invariant-loop decreases-loop → tie.After-width invariant-loop decreases-loop
 cut c = c.before.before
 
-abbrev test : tie.After-width invariant-loop decreases-loop → tie.In-loop invariant-loop decreases-loop
+abbrev test : tie.After-width invariant-loop decreases-loop → tie.In-loop-j invariant-loop decreases-loop
 test c = c.before.before.before
 
-abbrev start : tie.At-loop invariant-loop decreases-loop → tie.Start invariant-loop decreases-loop
+abbrev start : tie.At-loop-j invariant-loop decreases-loop → tie.Start invariant-loop decreases-loop
 start c = c.before.before.before.before.before.before
 
 -- the block has some j's, and no more than are left
 some_j : (c : tie.After-width invariant-loop decreases-loop) → 0 < c.width.result
-some_j c = c.width.ensures.2 (test c).loop-test.true
+some_j c = c.width.ensures.2 (test c).loop-j-test.true
 
 block : (c : tie.After-width invariant-loop decreases-loop)
-    → let at = (test c).before in Block (at.loop.j - c.width.result) at.loop.j (start at).args.period
-block c = next_block _ _ _ c.width.ensures.0 c.width.ensures.1 (test c).before.loop.invariant.0
+    → let at = (test c).before in Block (at.loop-j.j - c.width.result) at.loop-j.j (start at).args.period
+block c = next_block _ _ _ c.width.ensures.0 c.width.ensures.1 (test c).loop-j.invariant.0
 
-loop-holds : tie.Need-loop-init invariant-loop decreases-loop
+loop-holds : tie.Need-loop-j-init invariant-loop decreases-loop
 loop-holds c = (omega arith, refl, refl, no_full_yet)
 
 settles-requires : tie.Need-settles-requires invariant-loop decreases-loop
 settles-requires c κs = search rules
 
-same_length : tie.Need-same-length invariant-loop decreases-loop
-same_length c = c.before.before.before.loop.invariant.2
+same_length : tie.Need-shape_of-masks-then-settles invariant-loop decreases-loop
+same_length c = c.loop-j.invariant.2
 
-same-length-2 : tie.Need-same-length-2 invariant-loop decreases-loop
-same-length-2 c = c.before.before.before.loop.invariant.1
+same-length-2 : tie.Need-shape_of-out-then-settles invariant-loop decreases-loop
+same-length-2 c = c.loop-j.invariant.1
 
-returns : tie.Need-returns invariant-loop decreases-loop
+returns : tie.Need-returns-then-settles invariant-loop decreases-loop
 returns c =
-    let told = c.before in
-    let at = told.before.before in
-    full_settled _ at.loop.invariant.0 (sym told.settles.ensures ∙ c.if1.true) at.loop.invariant.3
+    full_settled _ c.loop-j.invariant.0 (sym c.settles.ensures ∙ c.if-settles.true) c.loop-j.invariant.3
 
 width-requires : tie.Need-width-requires invariant-loop decreases-loop
 width-requires c κs = search rules
 
-sub_low : tie.Need-overflow-sub-low invariant-loop decreases-loop
+sub_low : tie.Need-overflow_sub-low invariant-loop decreases-loop
 sub_low c = omega (arith, c.width.ensures)
 
-add-false-at-bounds : tie.Need-overflow-add-false-at-bounds invariant-loop decreases-loop
-add-false-at-bounds c = omega (arith, c.width.ensures, (test c).loop-test.true)
+add-false-at-bounds : tie.Need-overflow_add-low invariant-loop decreases-loop
+add-false-at-bounds c = omega (arith, c.width.ensures, (test c).loop-j-test.true)
 
-false-at-bounds-requires : tie.Need-false-at-bounds-requires invariant-loop decreases-loop
+false-at-bounds-requires : tie.Need-false_at_bounds-requires invariant-loop decreases-loop
 false-at-bounds-requires c κs =
     let at = (test c.before).before in
-    let (some, long) = (start at).pre in
-    masks_ask _ (omega (arith, some_j c.before, at.loop.inv.0)) at.loop.masks
-    (omega (arith, at.loop.inv.2, long)) some
+    let (some, long) = (start at).requires in
+    masks_ask _ (omega (arith, some_j c.before, at.loop-j.invariant.0)) at.loop-j.masks
+    (omega (arith, at.loop-j.invariant.2, long)) some
 
-full-block-requires : tie.Need-full-block-requires invariant-loop decreases-loop
+full-block-requires : tie.Need-full_block-f-requires invariant-loop decreases-loop
 full-block-requires c κs =
     let judged = c.before.before.before.before in
     let at = (test (cut judged)).before in
-    let (some, long) = (start at).pre in
-    let same = judged.false-at-bounds.auto.1.1.1.1.1.1.1.1.0 in
-    full_block_asks at.loop.inv.3 (block (cut judged)) (omega (arith, same, at.loop.inv.2, long))
-    judged.false-at-bounds.ensures some
+    let (some, long) = (start at).requires in
+    let same = judged.false_at_bounds.auto.masks in
+    full_block_asks at.loop-j.invariant.3 (block (cut judged)) (omega (arith, same, at.loop-j.invariant.2, long))
+    judged.false_at_bounds.ensures some
 
-loop-less : tie.Need-loop-smaller invariant-loop decreases-loop
+loop-less : tie.Need-loop-j-smaller invariant-loop decreases-loop
 loop-less c =
     let width = cut c.before.before.before.before.before.before.before in
-    omega (arith, some_j width, (test width).loop-test.taken)
+    omega (arith, some_j width, (test width).loop-j-test.taken)
 
-loop-again : tie.Need-loop-preserved invariant-loop decreases-loop
+loop-again : tie.Need-loop-j-preserved invariant-loop decreases-loop
 loop-again c =
-    let put = c.before.before in
-    let judged = put.before.before.before.before.before in
+    let judged = c.before.before.before.before.before.before.before in
     let at = (test (cut judged)).before in
-    let same = judged.false-at-bounds.auto.1.1.1.1.1.1.1.1.0 in (
-      omega (arith, at.loop.inv.0),
-      put.full_block.auto.1.1.1.1.1.1.1.1.1.1.0 ∙ at.loop.inv.1,
-      same ∙ at.loop.inv.2,
-      full_block_done at.loop.inv.3 (block (cut judged)) (omega (arith, same, at.loop.inv.2, (start at).pre.1))
-          judged.false-at-bounds.ensures _ _ put.full_block.ensures,
+    let same = judged.false_at_bounds.auto.masks in (
+      omega (arith, at.loop-j.invariant.0),
+      c.full_block-f.auto.out ∙ at.loop-j.invariant.1,
+      same ∙ at.loop-j.invariant.2,
+      full_block_done at.loop-j.invariant.3 (block (cut judged)) (omega (arith, same, at.loop-j.invariant.2, (start at).requires.1))
+          judged.false_at_bounds.ensures _ _ c.full_block-f.ensures,
     )
 
-same-length-3 : tie.Need-same-length-3 invariant-loop decreases-loop
-same-length-3 c = c.before.loop.invariant.2
+same-length-3 : tie.Need-shape_of-masks invariant-loop decreases-loop
+same-length-3 c = c.loop-j.invariant.2
 
-same-length-4 : tie.Need-same-length-4 invariant-loop decreases-loop
-same-length-4 c = c.before.loop.invariant.1
+same-length-4 : tie.Need-shape_of-out invariant-loop decreases-loop
+same-length-4 c = c.loop-j.invariant.1
 
-returns-2 : tie.Need-returns-2 invariant-loop decreases-loop
-returns-2 c = full_over _ c.loop-test.false c.before.loop.invariant.3
+returns-2 : tie.Need-returns invariant-loop decreases-loop
+returns-2 c = full_over _ c.loop-j-test.false c.loop-j.invariant.3
 
-pub full-blocks-spec : {M : Type 1} → statement M
-full-blocks-spec =
+pub full_blocks_spec : {M : Type 1} → statement M
+full_blocks_spec =
     tie.close
     (tie.spec
     invariant-loop

@@ -5,59 +5,58 @@ use Rattle.steps.proofs.StepLaws.{there, fair_making, read_gives}
 use Rattle.steps.proofs.made.made.Statement.{statement}
 use Rattle.steps.proofs.made.made.Tie as tie
 
-abbrev start : tie.After-natural → tie.Start
+abbrev start : tie.After-natural-x → tie.Start
 start c = c.before.before.before.before.before
 
-natural-requires : tie.Need-natural-requires
-natural-requires c κs = (there _ _ c.before.before.before.before.requires.making).2
+natural-requires : tie.Need-natural-x-requires
+natural-requires c κs = (there _ _ c.requires.making).2
 
-sub-of-body : tie.Need-overflow-sub-of-body
+sub-of-body : tie.Need-slice_bounds-of_body-count
 sub-of-body c = (there _ _ (start c).requires.making).0
 
-part-of-body-start : tie.Need-slice-bounds-of-body-start
+part-of-body-start : tie.Need-slice_bounds-of_body-start
 part-of-body-start c = (there _ _ (start c).requires.making).0
 
-part-of-body-end : tie.Need-slice-bounds-of-body-end
+part-of-body-end : tie.Need-slice_bounds-of_body-end
 part-of-body-end c = search rules
 
-sub-of-body-2 : tie.Need-overflow-sub-of-body-2
+sub-of-body-2 : tie.Need-slice_bounds-of_body-count-2
 sub-of-body-2 c = (there _ _ (start c.before).requires.making).1
 
-part-of-body-start-2 : tie.Need-slice-bounds-of-body-start-2
+part-of-body-start-2 : tie.Need-slice_bounds-of_body-start-2
 part-of-body-start-2 c = (there _ _ (start c.before).requires.making).1
 
-part-of-body-end-2 : tie.Need-slice-bounds-of-body-end-2
+part-of-body-end-2 : tie.Need-slice_bounds-of_body-end-2
 part-of-body-end-2 c = search rules
 
-add-of-body : tie.Need-overflow-add-of-body
+add-of-body : tie.Need-overflow_add-node
 add-of-body c = search rules
 
-add-of-body-2 : tie.Need-overflow-add-of-body-2
+add-of-body-2 : tie.Need-overflow_add-place
 add-of-body-2 c = search rules
 
-of-body-requires : tie.Need-of-body-requires
+of-body-requires : tie.Need-of_body-requires
 of-body-requires c κs =
     let read = c.before.before.before in
     let some = (start read).requires in (
       record {
         rule = some.body;
         tail = some.tail;
-        fair_making = fair_making _ _ some.making _ read.natural.ensures.1;
+        fair_making = fair_making _ _ some.making _ read.natural-x.ensures.1;
       },
       some.making.zeros,
     )
 
-same_length : tie.Need-same-length
+same_length : tie.Need-shape_of-out
 same_length c = search rules
 
 returns : tie.Need-returns
 returns c =
-    let put = c.before.before in
-    let word = put.before.before.before.before.natural.ensures.1 in
-    λ q x a ds m. read_gives _ _ m _ word _ _ (put.of-body.ensures a ds (fair_making _ _ m _ word))
+    let word = c.natural-x.ensures.1 in
+    λ q x a ds m. read_gives _ _ m _ word _ _ (c.of_body.ensures a ds (fair_making _ _ m _ word))
 
-pub made-spec : {M : Type 1} → statement M
-made-spec =
+pub made_spec : {M : Type 1} → statement M
+made_spec =
     tie.close
     (tie.spec
     natural-requires

@@ -12,61 +12,61 @@ use Rattle.steps.proofs.made.scaled.Statement.{statement}
 use Rattle.steps.proofs.made.scaled.Tie as tie
 
 -- the calls, each found from the next
-abbrev start : tie.After-unit → tie.Start
+abbrev start : tie.After-unit-sum → tie.Start
 start c = c.before.before.before.before
 
-abbrev unit : tie.After-put → tie.After-unit
+abbrev unit : tie.After-put-right → tie.After-unit-sum
 unit c = c.before.before.before
 
-abbrev put : tie.After-after → tie.After-put
+abbrev put : tie.After-after-c → tie.After-put-right
 put c = c.before.before.before
 
-abbrev after : tie.After-fold → tie.After-after
+abbrev after : tie.After-fold-left → tie.After-after-c
 after c = c.before.before
 
-abbrev fold : tie.After-joined → tie.After-fold
+abbrev fold : tie.After-joined-both → tie.After-fold-left
 fold c = c.before.before.before.before
 
-room : (c : tie.After-put) → length (words c.put.new.1.1.1.0) ≤ most_words
-room c = same_room _ _ c.put.auto.1.1.1.0 (start (unit c)).requires.0.making.on.room
+room : (c : tie.After-put-right) → length (words c.put-right.new.out) ≤ most_words
+room c = same_room _ _ c.put-right.auto.out (start (unit c)).requires.0.making.on.room
 
-unit-requires : tie.Need-unit-requires
+unit-requires : tie.Need-unit-sum-requires
 unit-requires c κs = search rules
 
-slice-aggregate-put : tie.Need-slice-aggregate-put
+slice-aggregate-put : tie.Need-slice_bounds-put-end
 slice-aggregate-put c = search rules
 
-put-requires : tie.Need-put-requires
+put-requires : tie.Need-put-right-requires
 put-requires c κs =
     let sum = c.before.before in
     let (some, zeros, from, to) = (start sum).requires in
-    divisor_asks (from, to) some.making _ sum.unit.ensures
+    divisor_asks (from, to) some.making _ sum.unit-sum.ensures
 
-after-requires : tie.Need-after-requires
+after-requires : tie.Need-after-c-requires
 after-requires c κs = search rules
 
-fold-requires : tie.Need-fold-requires
+fold-requires : tie.Need-fold-left-requires
 fold-requires c κs =
     let then = c.before in
     let right = put then in
     let sum = unit right in
-    let (some, zeros, from, to) = (start sum).pre in
+    let (some, zeros, from, to) = (start sum).requires in
     record {
       rule = some.rule;
       tail = _;
-      ready = scaled_ready (from, to) some.making _ sum.unit.ensures _ _ right.put.ensures _ zeros _
-          then.after.ensures (room right);
+      ready = scaled_ready (from, to) some.making _ sum.unit-sum.ensures _ _ right.put-right.ensures _ zeros _
+          then.after-c.ensures (room right);
     }
 
-joined-requires : tie.Need-joined-requires
+joined-requires : tie.Need-joined-both-requires
 joined-requires c κs =
     let left = c.before.before.before in
     let then = after left in
     let right = put then in
     let sum = unit right in
-    let (some, zeros, from, to) = (start sum).pre in
-    joins (from, to) some.making _ sum.unit.ensures _ _ right.put.ensures _ zeros _ then.after.ensures
-    (room right) _ _ left.fold.ensures (same_room _ _ left.fold.auto.1.1.1.1.1.1.0 (room right))
+    let (some, zeros, from, to) = (start sum).requires in
+    joins (from, to) some.making _ sum.unit-sum.ensures _ _ right.put-right.ensures _ zeros _ then.after-c.ensures
+    (room right) _ _ left.fold-left.ensures (same_room _ _ left.fold-left.auto.out (room right))
 
 bound-requires : tie.Need-bound-requires
 bound-requires c κs =
@@ -75,30 +75,29 @@ bound-requires c κs =
     let then = after left in
     let right = put then in
     let sum = unit right in
-    let (some, zeros, from, to) = (start sum).pre in (
-      both_answer (from, to) some.making _ sum.unit.ensures _ _ right.put.ensures _ zeros _
-          then.after.ensures (room right) _ _ left.fold.ensures _ _ both.joined.ensures,
+    let (some, zeros, from, to) = (start sum).requires in (
+      both_answer (from, to) some.making _ sum.unit-sum.ensures _ _ right.put-right.ensures _ zeros _
+          then.after-c.ensures (room right) _ _ left.fold-left.ensures _ _ both.joined-both.ensures,
       setting_low some.making,
     )
 
-same_length : tie.Need-same-length
+same_length : tie.Need-shape_of-out
 same_length c = search rules
 
 returns : tie.Need-returns
 returns c =
-    let bound = c.before.before in
-    let both = bound.before.before.before.before in
+    let both = c.before.before.before.before.before.before in
     let left = fold both in
     let then = after left in
     let right = put then in
     let sum = unit right in
-    let (some, zeros, from, to) = (start sum).pre in
-    λ a ds m. scaled_gives (from, to) m _ sum.unit.ensures _ _ right.put.ensures _ zeros _
-    then.after.ensures (room right) _ _ left.fold.ensures _ _ both.joined.ensures _ _
-    bound.bound.ensures
+    let (some, zeros, from, to) = (start sum).requires in
+    λ a ds m. scaled_gives (from, to) m _ sum.unit-sum.ensures _ _ right.put-right.ensures _ zeros _
+    then.after-c.ensures (room right) _ _ left.fold-left.ensures _ _ both.joined-both.ensures _ _
+    c.bound.ensures
 
-pub scaled-spec : {M : Type 1} → statement M
-scaled-spec =
+pub scaled_spec : {M : Type 1} → statement M
+scaled_spec =
     tie.close
     (tie.spec
     unit-requires

@@ -14,32 +14,32 @@ use Rattle.steps.proofs.numbers.constant_at_limit.Statement.{statement}
 use Rattle.steps.proofs.numbers.constant_at_limit.Tie as tie
 
 natural-requires : tie.Need-natural-requires
-natural-requires c κs = omega (arith, literal_long c.before.requires)
+natural-requires c κs = omega (arith, literal_long c.requires)
 
 start-requires : tie.Need-start-requires
 start-requires c κs = search rules
 
-get-requires : tie.Need-get-requires
+get-requires : tie.Need-get-c-requires
 get-requires c κs =
-    let some = c.before.before.before.requires in
-    omega (arith, (literal_start some.test some.at c.before.natural.ensures.1 c.start.ensures).1)
+    let some = c.requires in
+    omega (arith, (literal_start some.test some.at c.natural.ensures.1 c.start.ensures).1)
 
 -- where T starts in a literal that is there
-starts : (c : tie.After-get) (n : ℕ) (t : Test) (s : Sum)
-    → LiteralAt (words c.before.before.before.before.args.bodies.now) n t s
-    → c.before.start.result ≡ start_of t
-starts c n t s l = (literal_start t l c.before.before.natural.ensures.1 c.before.start.ensures).0
+starts : (c : tie.After-get-c) (n : ℕ) (t : Test) (s : Sum)
+    → LiteralAt (words c.args.bodies.now) n t s
+    → c.start.result ≡ start_of t
+starts c n t s l = (literal_start t l c.natural.ensures.1 c.start.ensures).0
 
-returns : tie.Need-returns
+returns : tie.Need-returns-then-c-eq2147483647
 returns c =
-    let get = c.before.get in
-    λ n t s l. highest (sfits_of get.type-inv) get.ensures l (starts c.before n t s l) c.if1.true
+    let get = c.get-c in
+    λ n t s l. highest (sfits_of get.type_inv) get.ensures l (starts c.before n t s l) c.if-c-eq2147483647.true
 
-returns-2 : tie.Need-returns-2
+returns-2 : tie.Need-returns
 returns-2 c =
-    let get = c.before.get in
-    λ n t s l. lowest_decides (sfits_of get.type-inv) get.ensures l (starts c.before n t s l) c.if1.false
+    let get = c.get-c in
+    λ n t s l. lowest_decides (sfits_of get.type_inv) get.ensures l (starts c.before n t s l) c.if-c-eq2147483647.false
 
-pub constant-at-limit-spec : {M : Type 1} → statement M
-constant-at-limit-spec =
+pub constant_at_limit_spec : {M : Type 1} → statement M
+constant_at_limit_spec =
     tie.close (tie.spec natural-requires start-requires get-requires returns returns-2)

@@ -13,70 +13,67 @@ use Rattle.steps.proofs.NumberLaws.{Found, over_changed, none_yet, none_here, on
 use Rattle.steps.proofs.numbers.over.Statement.{statement}
 use Rattle.steps.proofs.numbers.over.Tie as tie
 
-abbrev invariant-loop : tie.invariant-loop
+abbrev invariant-loop : tie.invariant-loop-place
 invariant-loop bodies end change u place₀ place = Scanned (words bodies) place end (Found (over_changed change u) false)
 
-abbrev decreases-loop : tie.decreases-loop
+abbrev decreases-loop : tie.decreases-loop-place
 decreases-loop bodies end change u place₀ place = end - place
 
 -- the literal that the loop is at
-here : (c : tie.In-loop invariant-loop decreases-loop)
-    → SomeLiteral (words c.before.before.before.before.args.bodies.now) c.before.loop.place
-    c.before.before.before.before.args.end
-here c = scan_here c.before.loop.invariant c.loop-test.true c.before.before.before.before.requires.0
+here : (c : tie.In-loop-place invariant-loop decreases-loop)
+    → SomeLiteral (words c.args.bodies.now) c.loop-place.place
+    c.args.end
+here c = scan_here c.loop-place.invariant c.loop-place-test.true c.requires.0
 
-first-requires : tie.Need-first-requires invariant-loop decreases-loop
-first-requires c κs = c.before.requires.0
+first-requires : tie.Need-first-place-requires invariant-loop decreases-loop
+first-requires c κs = c.requires.0
 
-loop-holds : tie.Need-loop-init invariant-loop decreases-loop
-loop-holds c = scan_start _ (none_yet _) c.first.ensures
+loop-holds : tie.Need-loop-place-init invariant-loop decreases-loop
+loop-holds c = scan_start _ (none_yet _) c.first-place.ensures
 
-mul-over : tie.Need-overflow-mul-over invariant-loop decreases-loop
+mul-over : tie.Need-overflow_mul-place invariant-loop decreases-loop
 mul-over c = omega (arith, part_fits _ _ (here c))
 
-sub-over : tie.Need-overflow-sub-over invariant-loop decreases-loop
+sub-over : tie.Need-slice_bounds-over-count invariant-loop decreases-loop
 sub-over c = part_inside _ _ (here c)
 
-part-over-start : tie.Need-slice-bounds-over-start invariant-loop decreases-loop
+part-over-start : tie.Need-slice_bounds-over-start invariant-loop decreases-loop
 part-over-start c = part_inside _ _ (here c)
 
-part-over-end : tie.Need-slice-bounds-over-end invariant-loop decreases-loop
+part-over-end : tie.Need-slice_bounds-over-end invariant-loop decreases-loop
 part-over-end c = search rules
 
 over-requires : tie.Need-over-requires invariant-loop decreases-loop
 over-requires c κs =
-    (part_literal _ _ (here c.before), c.before.before.before.before.before.requires.1)
+    (part_literal _ _ (here c.before), c.requires.1)
 
-returns : tie.Need-returns invariant-loop decreases-loop
+returns : tie.Need-returns-then-over invariant-loop decreases-loop
 returns c =
-    let test = c.before.before.before in
     λ n a b.
     over_body _ _ a
-    (scan_ended test.before.loop.invariant test.loop-test.true (Found _ true)
+    (scan_ended c.loop-place.invariant c.loop-place-test.true (Found _ true)
     (λ t s ls ks l q.
-    one_here _ t s ls ks q (sym (c.before.over.ensures _ t s (literal_part _ _ l)) ∙ c.if1.true))
+    one_here _ t s ls ks q (sym (c.over.ensures _ t s (literal_part _ _ l)) ∙ c.if-over.true))
     n a b)
 
-following-requires : tie.Need-following-requires invariant-loop decreases-loop
+following-requires : tie.Need-following-place-requires invariant-loop decreases-loop
 following-requires c κs = here c.before.before.before
 
-loop-less : tie.Need-loop-smaller invariant-loop decreases-loop
-loop-less c = omega (arith, c.following.ensures.0, c.before.before.before.before.loop-test.true)
+loop-less : tie.Need-loop-place-smaller invariant-loop decreases-loop
+loop-less c = omega (arith, c.following-place.ensures.0, c.loop-place-test.true)
 
-loop-again : tie.Need-loop-preserved invariant-loop decreases-loop
+loop-again : tie.Need-loop-place-preserved invariant-loop decreases-loop
 loop-again c =
-    let found = c.before in
-    let test = found.before.before.before in
-    scan_step test.before.loop.invariant test.loop-test.true (Found _ false) c.following.ensures.1
+    scan_step c.loop-place.invariant c.loop-place-test.true (Found _ false) c.following-place.ensures.1
     (λ t s ls ks l q.
-    none_here _ t s ks q (sym (found.before.over.ensures _ t s (literal_part _ _ l)) ∙ found.if1.false))
+    none_here _ t s ks q (sym (c.over.ensures _ t s (literal_part _ _ l)) ∙ c.if-over.false))
 
-returns-2 : tie.Need-returns-2 invariant-loop decreases-loop
+returns-2 : tie.Need-returns invariant-loop decreases-loop
 returns-2 c =
-    λ n a b. over_body _ _ a (scan_over c.before.loop.invariant (omega (arith, c.loop-test.false)) n a b)
+    λ n a b. over_body _ _ a (scan_over c.loop-place.invariant (omega (arith, c.loop-place-test.false)) n a b)
 
-pub over-spec : {M : Type 1} → statement M
-over-spec =
+pub over_spec : {M : Type 1} → statement M
+over_spec =
     tie.close
     (tie.spec
     invariant-loop

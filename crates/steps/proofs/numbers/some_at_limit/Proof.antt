@@ -14,71 +14,68 @@ use Rattle.steps.proofs.NumberLaws.{Found, none_yet, none_here, one_here, found_
 use Rattle.steps.proofs.numbers.some_at_limit.Statement.{statement}
 use Rattle.steps.proofs.numbers.some_at_limit.Tie as tie
 
-abbrev invariant-loop : tie.invariant-loop
+abbrev invariant-loop : tie.invariant-loop-place
 invariant-loop bodies end place₀ place = Scanned (words bodies) place end (Found at_limit false)
 
-abbrev decreases-loop : tie.decreases-loop
+abbrev decreases-loop : tie.decreases-loop-place
 decreases-loop bodies end place₀ place = end - place
 
 -- the literal that the loop is at
-here : (c : tie.In-loop invariant-loop decreases-loop)
-    → SomeLiteral (words c.before.before.before.before.args.bodies.now) c.before.loop.place
-    c.before.before.before.before.args.end
-here c = scan_here c.before.loop.invariant c.loop-test.true c.before.before.before.before.requires
+here : (c : tie.In-loop-place invariant-loop decreases-loop)
+    → SomeLiteral (words c.args.bodies.now) c.loop-place.place
+    c.args.end
+here c = scan_here c.loop-place.invariant c.loop-place-test.true c.requires
 
-first-requires : tie.Need-first-requires invariant-loop decreases-loop
-first-requires c κs = c.before.requires
+first-requires : tie.Need-first-place-requires invariant-loop decreases-loop
+first-requires c κs = c.requires
 
-loop-holds : tie.Need-loop-init invariant-loop decreases-loop
-loop-holds c = scan_start _ (none_yet _) c.first.ensures
+loop-holds : tie.Need-loop-place-init invariant-loop decreases-loop
+loop-holds c = scan_start _ (none_yet _) c.first-place.ensures
 
-mul-constant-at-limit : tie.Need-overflow-mul-constant-at-limit invariant-loop decreases-loop
+mul-constant-at-limit : tie.Need-overflow_mul-place invariant-loop decreases-loop
 mul-constant-at-limit c = omega (arith, part_fits _ _ (here c))
 
-sub-constant-at-limit : tie.Need-overflow-sub-constant-at-limit invariant-loop decreases-loop
+sub-constant-at-limit : tie.Need-slice_bounds-constant_at_limit-count invariant-loop decreases-loop
 sub-constant-at-limit c = part_inside _ _ (here c)
 
-part-constant-at-limit-start : tie.Need-slice-bounds-constant-at-limit-start invariant-loop decreases-loop
+part-constant-at-limit-start : tie.Need-slice_bounds-constant_at_limit-start invariant-loop decreases-loop
 part-constant-at-limit-start c = part_inside _ _ (here c)
 
-part-constant-at-limit-end : tie.Need-slice-bounds-constant-at-limit-end invariant-loop decreases-loop
+part-constant-at-limit-end : tie.Need-slice_bounds-constant_at_limit-end invariant-loop decreases-loop
 part-constant-at-limit-end c = search rules
 
-constant-at-limit-requires : tie.Need-constant-at-limit-requires invariant-loop decreases-loop
+constant-at-limit-requires : tie.Need-constant_at_limit-requires invariant-loop decreases-loop
 constant-at-limit-requires c κs =
     part_literal _ _ (here c.before)
 
-returns : tie.Need-returns invariant-loop decreases-loop
+returns : tie.Need-returns-then-constant_at_limit invariant-loop decreases-loop
 returns c =
-    let test = c.before.before.before in
     λ n a b.
     found_body _ a
-    (scan_ended test.before.loop.invariant test.loop-test.true (Found _ true)
+    (scan_ended c.loop-place.invariant c.loop-place-test.true (Found _ true)
     (λ t s ls ks l q.
-    one_here _ t s ls ks q (sym (c.before.constant-at-limit.ensures _ t s (literal_part _ _ l)) ∙ c.if1.true))
+    one_here _ t s ls ks q (sym (c.constant_at_limit.ensures _ t s (literal_part _ _ l)) ∙ c.if-constant_at_limit.true))
     n a b)
 
-following-requires : tie.Need-following-requires invariant-loop decreases-loop
+following-requires : tie.Need-following-place-requires invariant-loop decreases-loop
 following-requires c κs = here c.before.before.before
 
-loop-less : tie.Need-loop-smaller invariant-loop decreases-loop
-loop-less c = omega (arith, c.following.ensures.0, c.before.before.before.before.loop-test.true)
+loop-less : tie.Need-loop-place-smaller invariant-loop decreases-loop
+loop-less c = omega (arith, c.following-place.ensures.0, c.loop-place-test.true)
 
-loop-again : tie.Need-loop-preserved invariant-loop decreases-loop
+loop-again : tie.Need-loop-place-preserved invariant-loop decreases-loop
 loop-again c =
-    let found = c.before in
-    let test = found.before.before.before in
-    scan_step test.before.loop.invariant test.loop-test.true (Found _ false) c.following.ensures.1
+    scan_step c.loop-place.invariant c.loop-place-test.true (Found _ false) c.following-place.ensures.1
     (λ t s ls ks l q.
     none_here _ t s ks q
-    (sym (found.before.constant-at-limit.ensures _ t s (literal_part _ _ l)) ∙ found.if1.false))
+    (sym (c.constant_at_limit.ensures _ t s (literal_part _ _ l)) ∙ c.if-constant_at_limit.false))
 
-returns-2 : tie.Need-returns-2 invariant-loop decreases-loop
+returns-2 : tie.Need-returns invariant-loop decreases-loop
 returns-2 c =
-    λ n a b. found_body _ a (scan_over c.before.loop.invariant (omega (arith, c.loop-test.false)) n a b)
+    λ n a b. found_body _ a (scan_over c.loop-place.invariant (omega (arith, c.loop-place-test.false)) n a b)
 
-pub some-at-limit-spec : {M : Type 1} → statement M
-some-at-limit-spec =
+pub some_at_limit_spec : {M : Type 1} → statement M
+some_at_limit_spec =
     tie.close
     (tie.spec
     invariant-loop

@@ -10,99 +10,97 @@ use Rattle.steps.proofs.BlockLaws.{bound_asks}
 use Rattle.steps.proofs.survey.of_disjuncts.Statement.{statement}
 use Rattle.steps.proofs.survey.of_disjuncts.Tie as tie
 
-abbrev invariant-loop : tie.invariant-loop
+abbrev invariant-loop : tie.invariant-loop-i
 invariant-loop entries bodies node place x period places k first many₀ i₀ many i =
     (i ≤ k) × (many ≤ (i + 1) * 4096)
     × RowsSoFar (words entries) (words bodies) node place x period places k i many
 
-abbrev decreases-loop : tie.decreases-loop
+abbrev decreases-loop : tie.decreases-loop-i
 decreases-loop entries bodies node place x period places k first many₀ i₀ many i = k - i
 
 -- the ways back: from the row of a bound to the loop's test, and from there to the start
-abbrev test : tie.After-full-row invariant-loop decreases-loop → tie.In-loop invariant-loop decreases-loop
+abbrev test : tie.After-full_row-full invariant-loop decreases-loop → tie.In-loop-i invariant-loop decreases-loop
 test c = c.before.before
 
-abbrev start : tie.In-loop invariant-loop decreases-loop → tie.Start invariant-loop decreases-loop
-start c = c.before.before.before.before.before.before.before.before.before
+abbrev start : tie.In-loop-i invariant-loop decreases-loop → tie.Start invariant-loop decreases-loop
+start c = c.before.before.before.before.before.before.before
 
 -- of a row no more than P stay open
-few : (c : tie.After-full invariant-loop decreases-loop) → c.full.given.0.0 ≤ (start (test c.before.before)).args.period
+few : (c : tie.In-NoneTrue-full-2 invariant-loop decreases-loop) → c.in-NoneTrue-full.more ≤ (start (test c.before)).args.period
 few c =
-    let row = c.before.before in
-    row_few _ (test row).loop-test.true row.before.place.ensures row.full-row.ensures
-    (start (test row)).pre.0 c.full.given.1
+    let row = c.before in
+    row_few _ (test row).loop-i-test.true row.place-p.ensures row.full_row-full.ensures
+    (start (test row)).requires.0 c.in-NoneTrue-full.is
 
-far-row-requires : tie.Need-far-row-requires invariant-loop decreases-loop
+far-row-requires : tie.Need-far_row-far-requires invariant-loop decreases-loop
 far-row-requires c κs =
-    let (some, upto, _) = c.before.before.before.requires in
+    let (some, upto, _) = c.requires in
     (record { rule = some.rule; there = some.body.there }, some.body.setting, upto)
 
-enum-known-far : tie.Need-enum-known-far invariant-loop decreases-loop
+enum-known-far : tie.Need-enum_known-far invariant-loop decreases-loop
 enum-known-far c = search rules
 
-enum_told : tie.Need-enum-told invariant-loop decreases-loop
+enum_told : tie.Need-enum_told-1 invariant-loop decreases-loop
 enum_told c = search rules
 
-returns : tie.Need-returns invariant-loop decreases-loop
-returns c = far_true _ c.before.before.far-row.ensures c.enum_told.given.1
+returns : tie.Need-returns-in_default invariant-loop decreases-loop
+returns c = far_true _ c.far_row-far.ensures c.in_default.is
 
-loop-holds : tie.Need-loop-init invariant-loop decreases-loop
+loop-holds : tie.Need-loop-i-init invariant-loop decreases-loop
 loop-holds c =
-    let judged = c.before in
-    let far-row = judged.before.before in
-    let (some, upto, _) = far-row.before.before.before.before.requires in (
+    let (some, upto, _) = c.requires in (
       omega arith,
-      omega (arith, far_few _ far-row.far-row.ensures some judged.far.given.1, upto),
-      first_row _ far-row.far-row.ensures judged.far.given.1,
+      omega (arith, far_few _ c.far_row-far.ensures some c.in-NoneTrue.is, upto),
+      first_row _ c.far_row-far.ensures c.in-NoneTrue.is,
     )
 
-place-requires : tie.Need-place-requires invariant-loop decreases-loop
-place-requires c κs = omega (arith, c.loop-test.true, (start c).requires.0.body.bounds_at.held)
+place-requires : tie.Need-place-p-requires invariant-loop decreases-loop
+place-requires c κs = omega (arith, c.loop-i-test.true, (start c).requires.0.body.bounds_at.held)
 
-full-row-requires : tie.Need-full-row-requires invariant-loop decreases-loop
+full-row-requires : tie.Need-full_row-full-requires invariant-loop decreases-loop
 full-row-requires c κs =
-    let (some, upto, _) = (start c.before).pre in
-    bound_asks some c.before.loop-test.true c.place.ensures upto
+    let (some, upto, _) = (start c.before).requires in
+    bound_asks some c.loop-i-test.true c.place-p.ensures upto
 
-enum-known-full : tie.Need-enum-known-full invariant-loop decreases-loop
+enum-known-full : tie.Need-enum_known-full invariant-loop decreases-loop
 enum-known-full c = search rules
 
-enum-told-2 : tie.Need-enum-told-2 invariant-loop decreases-loop
+enum-told-2 : tie.Need-enum_told-in_default-full invariant-loop decreases-loop
 enum-told-2 c = search rules
 
-returns-2 : tie.Need-returns-2 invariant-loop decreases-loop
+returns-2 : tie.Need-returns-in_default-full invariant-loop decreases-loop
 returns-2 c =
-    let row = c.before.before in
-    row_true _ (test row).loop-test.true row.before.place.ensures row.full-row.ensures
-    c.enum-told2.given.1
+    let row = c.before in
+    row_true _ (test row).loop-i-test.true row.place-p.ensures row.full_row-full.ensures
+    c.in_default-full.is
 
-add-many : tie.Need-overflow-add-many invariant-loop decreases-loop
+add-many : tie.Need-overflow_add-many invariant-loop decreases-loop
 add-many c =
-    let at = test c.before.before.before in
-    omega (arith, at.before.loop.inv.1, at.loop-test.taken, (start at).pre.1, (start at).pre.2, few c.before)
+    let at = test c.before in
+    omega (arith, at.loop-i.invariant.1, at.loop-i-test.taken, (start at).requires.1, (start at).requires.2, few c.before)
 
-add-i : tie.Need-overflow-add-i invariant-loop decreases-loop
+add-i : tie.Need-overflow_add-i invariant-loop decreases-loop
 add-i c =
-    let at = test c.before.before.before in omega (arith, at.loop-test.taken, (start at).pre.2)
+    let at = test c.before in omega (arith, at.loop-i-test.taken, (start at).requires.2)
 
-loop-less : tie.Need-loop-smaller invariant-loop decreases-loop
-loop-less c = omega (arith, c.before.before.before.before.before.loop-test.true)
+loop-less : tie.Need-loop-i-smaller invariant-loop decreases-loop
+loop-less c = omega (arith, c.loop-i-test.true)
 
-loop-again : tie.Need-loop-preserved invariant-loop decreases-loop
+loop-again : tie.Need-loop-i-preserved invariant-loop decreases-loop
 loop-again c =
-    let row = c.before.before.before in
+    let row = c.before in
     let at = test row in (
-      omega (arith, at.loop-test.taken),
-      omega (arith, at.before.loop.inv.1, (start at).pre.1, few c.before),
-      one_row_more _ at.loop-test.taken row.before.place.ensures row.full-row.ensures
-          c.before.full.given.1 at.before.loop.inv.2,
+      omega (arith, at.loop-i-test.taken),
+      omega (arith, at.loop-i.invariant.1, (start at).requires.1, few c.before),
+      one_row_more _ at.loop-i-test.taken row.place-p.ensures row.full_row-full.ensures
+          c.in-NoneTrue-full.is at.loop-i.invariant.2,
     )
 
-returns-3 : tie.Need-returns-3 invariant-loop decreases-loop
-returns-3 c = every_row _ _ _ c.loop-test.false c.before.loop.invariant.2
+returns-3 : tie.Need-returns invariant-loop decreases-loop
+returns-3 c = every_row _ _ _ c.loop-i-test.false c.loop-i.invariant.2
 
-pub of-disjuncts-spec : {M : Type 1} → statement M
-of-disjuncts-spec =
+pub of_disjuncts_spec : {M : Type 1} → statement M
+of_disjuncts_spec =
     tie.close
     (tie.spec
     invariant-loop
