@@ -14,7 +14,6 @@ use Rattle.rules.specs.Table.{Node, most_words}
 use Rattle.rules.specs.Calls.{words}
 use Rattle.tables.specs.Standing.{Stands}
 use Rattle.tables.proofs.WordLaws.{words_length}
-use Rattle.tables.proofs.WordLaws.{part}
 use Rattle.tables.proofs.Standings.{inside_entries}
 use Rattle.tables.proofs.Parts.{bytes_from, bytes_length, few_part}
 use Rattle.folding.specs.Answers.{Gives}

@@ -232,7 +232,7 @@ module _ (t : ℕ) where
       found.right-side.result c.fold-right.new.out c.fold-right.result
   right-plain c =
       let beside = found_left c in
-      right_folded (right_found beside.before.before) beside.if-chosen-side.taken c.fold-right.ensures
+      right_folded (right_found beside.before.before) beside.if-chosen-side.true c.fold-right.ensures
       c.fold-right.auto.out
 
   -- the quantifier is in the right side, and that is rebuilt
@@ -242,7 +242,7 @@ module _ (t : ℕ) where
       found.right-side.result c.around-right.new.out c.around-right.result
   right_made c =
       let beside = found_right c in
-      right_rebuilt (right_found beside.before.before) beside.if-chosen-side.left c.around-right.ensures
+      right_rebuilt (right_found beside.before.before) beside.if-chosen-side.false c.around-right.ensures
       c.around-right.auto.out
 
   -- both sides are answered

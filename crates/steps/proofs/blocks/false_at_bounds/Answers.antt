@@ -1,7 +1,6 @@
 -- `blocks::false_at_bounds` meets its contract: the masks of the bounds before bound i are there.
 -- Assumes nothing.
 use mathlib.Core.Path.{refl, ◌∙◌}
-use Prim.Native.Nat.{◌-◌}
 use native.Mathlib.Omega.{arith}
 use Rattle.steps.proofs.BlockLaws.{no_mask_yet, every_mask, bound_asks, one_mask_more}
 use Rattle.steps.proofs.blocks.false_at_bounds.Goals as goal

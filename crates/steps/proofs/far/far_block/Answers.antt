@@ -7,7 +7,7 @@ use Rattle.steps.proofs.ThereLaws.{same_room}
 use Rattle.steps.proofs.far.far_block.Goals as goal
 
 pub loop-j-init : goal.loop-j-init
-loop-j-init c = (c.requires.far-block.block.some, omega arith, refl, far_block_starts)
+loop-j-init c = (c.requires.far_block.block.some, omega arith, refl, far_block_starts)
 
 pub overflow_sub-j : goal.overflow_sub-j
 overflow_sub-j c = omega (arith, c.loop-j-test.true)
@@ -17,7 +17,7 @@ overflow_sub-j-in-loop-j c = omega (arith, c.loop-j-test.true)
 
 pub has-told-requires : goal.has-told-requires
 has-told-requires c =
-    omega (arith, c.loop-j-test.true, c.loop-j.invariant.1, c.requires.far-block.block.short)
+    omega (arith, c.loop-j-test.true, c.loop-j.invariant.1, c.requires.far_block.block.short)
 
 pub far_at-f-requires : goal.far_at-f-requires
 far_at-f-requires c =

@@ -47,11 +47,11 @@ full-at-requires : tie.Need-full_at-f-requires invariant-loop decreases-loop
 full-at-requires c κs =
     let found = c.before in
     let at = test found in
-    full_asks at.loop-i.invariant.2 (omega (arith, at.loop-i-test.taken)) at.loop-i.invariant.0
+    full_asks at.loop-i.invariant.2 (omega (arith, at.loop-i-test.true)) at.loop-i.invariant.0
     found.place-p.ensures found.at.ensures found.has-told.ensures (start at).requires
 
 loop-less : tie.Need-loop-i-smaller invariant-loop decreases-loop
-loop-less c = omega (arith, (test c.before.before.before.before).loop-i-test.taken)
+loop-less c = omega (arith, (test c.before.before.before.before).loop-i-test.true)
 
 loop-again : tie.Need-loop-i-preserved invariant-loop decreases-loop
 loop-again c =
@@ -61,7 +61,7 @@ loop-again c =
     let kept = c.full_at-f.auto.out ∙ inv.1 in (
       omega (arith, inv.0),
       kept,
-      full_done inv.2 (omega (arith, at.loop-i-test.taken)) inv.0 found.place-p.ensures
+      full_done inv.2 (omega (arith, at.loop-i-test.true)) inv.0 found.place-p.ensures
           found.at.ensures found.has-told.ensures _ _ (same_room _ _ kept) c.full_at-f.ensures,
     )
 

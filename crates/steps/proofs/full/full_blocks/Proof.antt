@@ -73,7 +73,7 @@ false-at-bounds-requires c κs =
 
 full-block-requires : tie.Need-full_block-f-requires invariant-loop decreases-loop
 full-block-requires c κs =
-    let judged = c.before.before.before.before in
+    let judged = c.before.before.before in
     let at = (test (cut judged)).before in
     let (some, long) = (start at).requires in
     let same = judged.false_at_bounds.auto.masks in
@@ -82,12 +82,12 @@ full-block-requires c κs =
 
 loop-less : tie.Need-loop-j-smaller invariant-loop decreases-loop
 loop-less c =
-    let width = cut c.before.before.before.before.before.before.before in
-    omega (arith, some_j width, (test width).loop-j-test.taken)
+    let width = cut c.before.before.before.before.before.before in
+    omega (arith, some_j width, (test width).loop-j-test.true)
 
 loop-again : tie.Need-loop-j-preserved invariant-loop decreases-loop
 loop-again c =
-    let judged = c.before.before.before.before.before.before.before in
+    let judged = c.before.before.before.before.before.before in
     let at = (test (cut judged)).before in
     let same = judged.false_at_bounds.auto.masks in (
       omega (arith, at.loop-j.invariant.0),

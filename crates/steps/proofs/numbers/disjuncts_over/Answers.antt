@@ -1,7 +1,6 @@
 -- `numbers::disjuncts_over` meets its contract: what all bounds tell is what those tell that are not yet looked at.
 -- Assumes nothing.
 use mathlib.Core.Path.{refl, sym, ◌∙◌}
-use Prim.Native.Nat.{◌-◌}
 use native.Mathlib.Omega.{arith}
 use Rattle.steps.proofs.NumberLaws.{bounds_body, bound_here, some_bound_here}
 use Rattle.steps.proofs.NumberLaws.{left_none, left_one, left_over, far_decides, bounds_decide}

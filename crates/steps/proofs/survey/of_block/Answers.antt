@@ -1,6 +1,5 @@
 -- `survey::of_block` meets its contract: the first k bits are counted.
 -- Assumes nothing.
-use Prim.Native.Nat.{◌-◌}
 use native.Mathlib.Omega.{arith}
 use Rattle.steps.proofs.SurveyLaws.{no_bit_yet, one_bit_more, bit_true, every_bit}
 use Rattle.steps.proofs.survey.of_block.Goals as goal

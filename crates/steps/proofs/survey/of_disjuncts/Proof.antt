@@ -26,7 +26,7 @@ abbrev start : tie.In-loop-i invariant-loop decreases-loop → tie.Start invaria
 start c = c.before.before.before.before.before.before.before
 
 -- of a row no more than P stay open
-few : (c : tie.In-NoneTrue-full-2 invariant-loop decreases-loop) → c.in-NoneTrue-full.more ≤ (start (test c.before)).args.period
+few : (c : tie.In-NoneTrue-full invariant-loop decreases-loop) → c.in-NoneTrue-full.more ≤ (start (test c.before)).args.period
 few c =
     let row = c.before in
     row_few _ (test row).loop-i-test.true row.place-p.ensures row.full_row-full.ensures
@@ -77,11 +77,11 @@ returns-2 c =
 add-many : tie.Need-overflow_add-many invariant-loop decreases-loop
 add-many c =
     let at = test c.before in
-    omega (arith, at.loop-i.invariant.1, at.loop-i-test.taken, (start at).requires.1, (start at).requires.2, few c.before)
+    omega (arith, at.loop-i.invariant.1, at.loop-i-test.true, (start at).requires.1, (start at).requires.2, few c)
 
 add-i : tie.Need-overflow_add-i invariant-loop decreases-loop
 add-i c =
-    let at = test c.before in omega (arith, at.loop-i-test.taken, (start at).requires.2)
+    let at = test c.before in omega (arith, at.loop-i-test.true, (start at).requires.2)
 
 loop-less : tie.Need-loop-i-smaller invariant-loop decreases-loop
 loop-less c = omega (arith, c.loop-i-test.true)
@@ -90,9 +90,9 @@ loop-again : tie.Need-loop-i-preserved invariant-loop decreases-loop
 loop-again c =
     let row = c.before in
     let at = test row in (
-      omega (arith, at.loop-i-test.taken),
-      omega (arith, at.loop-i.invariant.1, (start at).requires.1, few c.before),
-      one_row_more _ at.loop-i-test.taken row.place-p.ensures row.full_row-full.ensures
+      omega (arith, at.loop-i-test.true),
+      omega (arith, at.loop-i.invariant.1, (start at).requires.1, few c),
+      one_row_more _ at.loop-i-test.true row.place-p.ensures row.full_row-full.ensures
           c.in-NoneTrue-full.is at.loop-i.invariant.2,
     )
 

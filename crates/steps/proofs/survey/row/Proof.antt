@@ -32,7 +32,7 @@ some_j : (c : tie.After-width-n invariant-loop decreases-loop) → 0 < c.width-n
 some_j c = c.width-n.ensures.2 c.loop-left-test.true
 
 -- no more of them stay open than it has
-few : (c : tie.In-NoneTrue-2 invariant-loop decreases-loop) → c.in-NoneTrue.more ≤ (cut c.before).width-n.result
+few : (c : tie.In-NoneTrue invariant-loop decreases-loop) → c.in-NoneTrue.more ≤ (cut c.before).width-n.result
 few c =
     let seen = c.before in
     let width = cut seen in
@@ -74,7 +74,7 @@ returns c =
 add-many : tie.Need-overflow_add-many invariant-loop decreases-loop
 add-many c =
     let width = cut c.before in
-    omega (arith, (loop width).loop-left.invariant.1, few c.before, width.width-n.ensures.1)
+    omega (arith, (loop width).loop-left.invariant.1, few c, width.width-n.ensures.1)
 
 loop-less : tie.Need-loop-left-smaller invariant-loop decreases-loop
 loop-less c =
@@ -86,7 +86,7 @@ loop-again c =
     let width = cut seen in
     let at = loop width in (
       omega (arith, at.loop-left.invariant.0),
-      omega (arith, at.loop-left.invariant.1, few c.before, width.width-n.ensures.1),
+      omega (arith, at.loop-left.invariant.1, few c, width.width-n.ensures.1),
       one_block_more _ _ _ _ _ at.loop-left.invariant.0 (some_j width) width.width-n.ensures.1
           seen.judge-judged.ensures seen.of_block-seen.ensures c.in-NoneTrue.is at.loop-left.invariant.2,
     )
