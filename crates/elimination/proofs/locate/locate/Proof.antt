@@ -14,88 +14,86 @@ use Rattle.elimination.proofs.locate.locate.Statement.{statement}
 use Rattle.elimination.proofs.locate.locate.Tie as tie
 
 -- the way back to the start
-abbrev start : tie.After-known-told → tie.Start
-start c = c.before.before.before.before.before.before
+abbrev start : tie.In-At → tie.Start
+start c = c.before.before.before.before
 
 -- what the search answers of a rule whose table this is
-searched : (c : tie.After-last) (r : Rule)
-    → let start = c.before.before.before in
-    HasTable (words start.args.table.now) r → LastAt r c.last.result
-searched c r has = c.last.ensures r has.table (read_table has c.before.natural.ensures.1).counted
+searched : (c : tie.After-last-found) (r : Rule)
+    → HasTable (words c.args.table.now) r → LastAt r c.last-found.result
+searched c r has = c.last-found.ensures r has.table (read_table has c.natural.ensures.1).counted
 
 -- where it is, if there is one
-somewhere : (c : tie.After-known-told) (r : Rule) → HasTable (words (start c).args.table.now) r
-    → Somewhere (start c).args.table.now r c.before.found.given.0.0 c.before.found.given.0.1.0
+somewhere : (c : tie.In-At) (r : Rule) → HasTable (words (start c).args.table.now) r
+    → Somewhere (start c).args.table.now r c.in-At.node c.in-At.place
 somewhere c r has =
-    found_there has c.before.found.given.1 (searched c.before.before.before r has)
+    found_there has c.in-At.is (searched c.before r has)
 
-the_place : (c : tie.After-known-told)
-    → Somewhere (start c).args.table.now (start c).requires.rule c.before.found.given.0.0
-    c.before.found.given.0.1.0
+the_place : (c : tie.In-At)
+    → Somewhere (start c).args.table.now (start c).requires.rule c.in-At.node
+    c.in-At.place
 the_place c = somewhere c (start c).requires.rule (start c).requires.has
 
 -- it is not far from the start
-near : (c : tie.After-known-told)
-    → let found = c.before.found.given.0 in
-    (found.0 + 2 ≤ 16384) × (found.1.0 + 2 ≤ 16384)
+near : (c : tie.In-At)
+    → (c.in-At.node + 2 ≤ 16384) × (c.in-At.place + 2 ≤ 16384)
 near c =
     let k = (the_place c).there in
     (omega (arith, entry_there k, k.has.few), omega (arith, body_there k, k.has.few))
 
 natural-requires : tie.Need-natural-requires
-natural-requires c κs = word_there c.before.requires.has
+natural-requires c κs = word_there c.requires.has
 
-last-requires : tie.Need-last-requires
+last-requires : tie.Need-last-found-requires
 last-requires c κs =
-    let has = c.before.before.requires.has in
+    let has = c.requires.has in
     (_, has.table, (read_table has c.natural.ensures.1).counted)
 
-enum-known-found : tie.Need-enum-known-found
+enum-known-found : tie.Need-enum_known-found
 enum-known-found c = search rules
 
-enum_told : tie.Need-enum-told
+enum_told : tie.Need-enum_told-1
 enum_told c = search rules
 
-returns : tie.Need-returns
-returns c = λ r has. found_none r c.enum_told.given.1 (searched c.before.before r has)
+returns : tie.Need-returns-in_default
+returns c = λ r has. found_none r c.in_default.is (searched c.before r has)
 
-add-entry : tie.Need-overflow-add-entry
+add-entry : tie.Need-overflow_add-entry
 add-entry c = omega (arith, (near c).0)
 
-mul-entry : tie.Need-overflow-mul-entry
+mul-entry : tie.Need-overflow_mul-entry
 mul-entry c = omega (arith, (near c).0)
 
-add_start : tie.Need-overflow-add-start
+add_start : tie.Need-overflow_add-start
 add_start c = omega (arith, (near c).1)
 
-mul-start : tie.Need-overflow-mul-start
+mul-start : tie.Need-overflow_mul-start
 mul-start c = omega (arith, (near c).1)
 
-sub-span : tie.Need-overflow-sub-span
+sub-span : tie.Need-slice_bounds-span-count
 sub-span c = entry_inside (the_place c).there
 
-part-span-start : tie.Need-slice-bounds-span-start
+part-span-start : tie.Need-slice_bounds-span-start
 part-span-start c = entry_inside (the_place c).there
 
-part-span-end : tie.Need-slice-bounds-span-end
+part-span-end : tie.Need-slice_bounds-span-end
 part-span-end c = search rules
 
-sub-span-2 : tie.Need-overflow-sub-span-2
+sub-span-2 : tie.Need-slice_bounds-span-count-2
 sub-span-2 c = body_inside (the_place c.before).there
 
-part-span-start-2 : tie.Need-slice-bounds-span-start-2
+part-span-start-2 : tie.Need-slice_bounds-span-start-2
 part-span-start-2 c = body_inside (the_place c.before).there
 
-part-span-end-2 : tie.Need-slice-bounds-span-end-2
+part-span-end-2 : tie.Need-slice_bounds-span-end-2
 part-span-end-2 c = search rules
 
-add-span : tie.Need-overflow-add-span
+add-span : tie.Need-overflow_add-node
 add-span c = omega (arith, (near c.before.before).0)
 
-add-span-2 : tie.Need-overflow-add-span-2
+add-span-2 : tie.Need-overflow_add-place
 add-span-2 c = omega (arith, (near c.before.before).1)
 
-span-requires : tie.Need-span-requires
+span-requires : tie.Need-span-body-requires
 span-requires c κs =
     let k = (the_place c.before.before).there in
     (record { rule = _; stands = body_stands k; formed = body_formed k }, body_few k)
@@ -103,22 +101,22 @@ span-requires c κs =
 natural-requires-2 : tie.Need-natural-requires-2
 natural-requires-2 c κs = omega (arith, body_there (the_place c.before.before.before).there)
 
-add-natural : tie.Need-overflow-add-natural
+add-natural : tie.Need-overflow_add-place-2
 add-natural c = omega (arith, (near c.before.before.before.before).1)
 
 natural-requires-3 : tie.Need-natural-requires-3
 natural-requires-3 c κs = omega (arith, body_there (the_place c.before.before.before.before).there)
 
-returns-2 : tie.Need-returns-2
+returns-2 : tie.Need-returns
 returns-2 c = λ r has.
-    let first = c.before.natural2 in
-    let body = c.before.before.span in
+    let first = c.natural-2 in
+    let body = c.span-body in
     let w = somewhere c.before.before.before.before.before r has in
-    locates first.result c.natural3.result body.result.words w first.ensures.1 c.natural3.ensures.1
+    locates first.result c.natural-3.result body.result.words w first.ensures.1 c.natural-3.ensures.1
     (body.ensures w.body (body_stands w.there) (body_formed w.there)).1
 
-pub locate-spec : {M : Type 1} → statement M
-locate-spec =
+pub locate_spec : {M : Type 1} → statement M
+locate_spec =
     tie.close
     (tie.spec
     natural-requires

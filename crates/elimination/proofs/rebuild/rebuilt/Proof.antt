@@ -16,11 +16,11 @@ use Rattle.elimination.proofs.rebuild.rebuilt.Statement.{statement}
 use Rattle.elimination.proofs.rebuild.rebuilt.Tie as tie
 
 -- the ways back: from the count, and from the walk
-abbrev start : tie.After-natural → tie.Start
-start c = c.before.before.before.before.before
+abbrev start : tie.After-natural-n → tie.Start
+start c = c.before.before.before.before
 
-abbrev counted : tie.After-start → tie.After-natural
-counted c = c.before.before.before.before.before.before
+abbrev counted : tie.After-start → tie.After-natural-n
+counted c = c.before.before.before.before.before
 
 -- the step may be rebuilt for these
 RebuildingFrom : tie.Start → Rule → Quantifier → ℕ → Rule → Type 0
@@ -30,66 +30,66 @@ RebuildingFrom c r q x a =
     args.places.now r q x a
 
 -- the rule whose table it is, once the count is read
-the-table : (c : tie.After-natural)
-    → ReadTable (start c).args.table.now c.natural.result (start c).requires.rule
-the-table c = read_table (start c).requires.rebuilding.ready.has c.natural.ensures.1
+the-table : (c : tie.After-natural-n)
+    → ReadTable (start c).args.table.now c.natural-n.result (start c).requires.rule
+the-table c = read_table (start c).requires.rebuilding.ready.has c.natural-n.ensures.1
 
 -- what the walk answers is closed
-closing : (c : tie.After-around) (r : Rule) (q : Quantifier) (x : ℕ) (a : Rule)
+closing : (c : tie.After-around-folded) (r : Rule) (q : Quantifier) (x : ℕ) (a : Rule)
     → let s = start (counted c.before) in
     RebuildingFrom s r q x a
-    → Closing (words s.args.table.now) (words c.around.new.1.1.1.1.1.1.1.1.0) s.args.room
-    c.around.result (fold (replace (new_of s.args.step x a) r))
+    → Closing (words s.args.table.now) (words c.around-folded.new.out) s.args.room
+    c.around-folded.result (fold (replace (new_of s.args.step x a) r))
 unfolding RebuildingFrom
 closing c r q x a k =
     let n = counted c.before in
-    let work = c.around.new.1.1.1.1.1.1.1.1.0 in
-    let none = c.before.start in
-    let t = read_table k.ready.has n.natural.ensures.1 in
-    rebuilt_closing k none.result (words work) c.around.result
-    (same_words work (start n).args.work.now c.around.auto.1.1.1.1.1.1.1.1.0)
-    (c.around.ensures r q x a _ (around_asks t k refl none.ensures))
+    let work = c.around-folded.new.out in
+    let none = c.start in
+    let t = read_table k.ready.has n.natural-n.ensures.1 in
+    rebuilt_closing k none.result (words work) c.around-folded.result
+    (same_words work (start n).args.work.now c.around-folded.auto.out)
+    (c.around-folded.ensures r q x a _ (around_asks t k refl none.ensures))
 
-natural-requires : tie.Need-natural-requires
-natural-requires c κs = word_there c.before.before.before.before.requires.rebuilding.ready.has
+natural-requires : tie.Need-natural-n-requires
+natural-requires c κs = word_there c.requires.rebuilding.ready.has
 
-add-from : tie.Need-overflow-add-from
+add-from : tie.Need-overflow_add-from
 add-from c = search rules
 
-mul-from : tie.Need-overflow-mul-from
+mul-from : tie.Need-overflow_mul-from
 mul-from c = search rules
 
-sub-around : tie.Need-overflow-sub-around
+sub-around : tie.Need-slice_bounds-around-count
 sub-around c = (starts_inside (the-table c)).0
 
-part-around-start : tie.Need-slice-bounds-around-start
-part-around-start c = (starts_inside (the-table c.before)).0
+part-around-start : tie.Need-slice_bounds-around-start
+part-around-start c = (starts_inside (the-table c)).0
 
-part-around-end : tie.Need-slice-bounds-around-end
+part-around-end : tie.Need-slice_bounds-around-end
 part-around-end c = search rules
 
-sub-around-2 : tie.Need-overflow-sub-around-2
-sub-around-2 c = (starts_inside (the-table c.before.before)).1
+sub-around-2 : tie.Need-slice_bounds-around-count-2
+sub-around-2 c = (starts_inside (the-table c.before)).1
 
-part-around-start-2 : tie.Need-slice-bounds-around-start-2
-part-around-start-2 c = (starts_inside (the-table c.before.before)).1
+part-around-start-2 : tie.Need-slice_bounds-around-start-2
+part-around-start-2 c = (starts_inside (the-table c.before)).1
 
-part-around-end-2 : tie.Need-slice-bounds-around-end-2
+part-around-end-2 : tie.Need-slice_bounds-around-end-2
 part-around-end-2 c = search rules
 
-add-around : tie.Need-overflow-add-around
+add-around : tie.Need-overflow_add-n
 add-around c = search rules
 
-slice-aggregate-around : tie.Need-slice-aggregate-around
+slice-aggregate-around : tie.Need-slice_bounds-around-end-3
 slice-aggregate-around c = search rules
 
 start-requires : tie.Need-start-requires
 start-requires c κs = search rules
 
-around-requires : tie.Need-around-requires
+around-requires : tie.Need-around-folded-requires
 around-requires c κs =
     let n = counted c in
-    let pre = (start n).pre in
+    let pre = (start n).requires in
     record {
       rule = pre.rule;
       quantifier = pre.quantifier;
@@ -106,10 +106,10 @@ closed-requires c κs =
     let pre = (start (counted walked.before)).requires in
     record { rule = _; closing = closing walked _ _ _ _ pre.rebuilding }
 
-same_length : tie.Need-same-length
+same_length : tie.Need-shape_of-table
 same_length c = search rules
 
-same-length-2 : tie.Need-same-length-2
+same-length-2 : tie.Need-shape_of-work
 same-length-2 c = search rules
 
 returns : tie.Need-returns
@@ -118,8 +118,8 @@ returns c = λ r q x a k.
     let put = c.before.before.before.before in
     put.closed.ensures _ (closing put.before.before.before.before.before r q x a k)
 
-pub rebuilt-spec : {M : Type 1} → statement M
-rebuilt-spec =
+pub rebuilt_spec : {M : Type 1} → statement M
+rebuilt_spec =
     tie.close
     (tie.spec
     natural-requires

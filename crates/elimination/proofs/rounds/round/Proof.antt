@@ -15,14 +15,14 @@ use Rattle.elimination.proofs.rounds.round.Statement.{statement}
 use Rattle.elimination.proofs.rounds.round.Tie as tie
 
 -- the ways back: from the test to its step and to the start, from where the quantifier is located anew to the test
-abbrev first : tie.Else2 → tie.After-for-all
+abbrev first : tie.Else-first-ne0 → tie.After-for_all-first
 first c = c.before.before.before.before.before
 
-abbrev start : tie.Else2 → tie.Start
+abbrev start : tie.Else-first-ne0 → tie.Start
 start c = (first c).before.before.before.before.before.before
 
-abbrev given-first : tie.After-known-told → tie.Else2
-given-first c = c.before.before.before.before.before
+abbrev given-first : tie.In-There → tie.Else-first-ne0
+given-first c = c.before.before
 
 -- a rule that is asked for, and its chosen quantifier
 abbrev Ready : tie.Start → Rule → Type 0
@@ -32,75 +32,73 @@ abbrev At : tie.Start → Rule → Type 0
 At c r = Locates r c.args.c
 
 -- where the line has come to after the for-all's own step, and where its quantifier is then
-after_first : (c : tie.Else2) (r : Rule) → Ready (start c) r → At (start c) r
-    → Come (words (first c).for-all.new.0) (words (first c).for-all.new.1.0) (start c).args.room
+after_first : (c : tie.Else-first-ne0) (r : Rule) → Ready (start c) r → At (start c) r
+    → Come (words (first c).for_all-first.new.table) (words (first c).for_all-first.new.work) (start c).args.room
     (to_for_all (start c).args.room r)
 after_first c r ready at =
-    let call = (first c).for-all in
+    let call = (first c).for_all-first in
     come_next (come_first r ready) (for_all_step _) _ _ (call.ensures r ready at) (for_all_fair _)
-    c.if2.false _ (same_words _ _ call.kept.0) (same_words _ _ call.kept.1.0)
+    c.if-first-ne0.false _ (same_words _ _ call.auto.table) (same_words _ _ call.auto.work)
 
-some-there : (c : tie.After-known-told) (r : Rule) (ready : Ready (start (given-first c)) r)
+some-there : (c : tie.In-There) (r : Rule) (ready : Ready (start (given-first c)) r)
     (at : At (start (given-first c)) r)
-    → Locates (after_first (given-first c) r ready at).rule c.before.located.given.0.0
+    → Locates (after_first (given-first c) r ready at).rule c.in-There.d
 some-there c r ready at =
     let come = after_first (given-first c) r ready at in
-    there come.rule c.before.located.given.1
-    (c.before.before.before.locate.ensures come.rule come.ready.has)
+    there come.rule c.in-There.is
+    (c.locate-located.ensures come.rule come.ready.has)
 
 numbered-requires : tie.Need-numbered-requires
-numbered-requires c κs = c.before.before.before.before.before.requires
+numbered-requires c κs = c.requires
 
-same_length : tie.Need-same-length
+same_length : tie.Need-shape_of-table-then-c
 same_length c = search rules
 
-same-length-2 : tie.Need-same-length-2
+same-length-2 : tie.Need-shape_of-work-then-c
 same-length-2 c = search rules
 
-returns : tie.Need-returns
+returns : tie.Need-returns-then-c
 returns c = λ r ready at.
-    let call = c.before.before.before.before in
-    let test = call.before.before.before in
-    some_answered _ r _ _ at test.if1.true (call.numbered.ensures r ready at)
+    some_answered _ r _ _ at c.if-c.true (c.numbered.ensures r ready at)
 
-for-all-requires : tie.Need-for-all-requires
-for-all-requires c κs = (c.before.before.before.before.before.requires, c.before.before.if1.false)
+for-all-requires : tie.Need-for_all-first-requires
+for-all-requires c κs = (c.requires, c.if-c.false)
 
-same-length-3 : tie.Need-same-length-3
+same-length-3 : tie.Need-shape_of-table-then-first-ne0
 same-length-3 c = search rules
 
-same-length-4 : tie.Need-same-length-4
+same-length-4 : tie.Need-shape_of-work-then-first-ne0
 same-length-4 c = search rules
 
-returns-2 : tie.Need-returns-2
+returns-2 : tie.Need-returns-then-first-ne0
 returns-2 c = λ r ready at.
-    let call = c.before.before.before.before.before.for-all in
-    ended_for_all _ r _ _ c.if2.true
+    let call = c.for_all-first in
+    ended_for_all _ r _ _ c.if-first-ne0.true
     (answered_next (come_first r ready) (for_all_step _) _ _ (call.ensures r ready at))
 
-locate-requires : tie.Need-locate-requires
+locate-requires : tie.Need-locate-located-requires
 locate-requires c κs =
-    let pre = (start c.before).requires in
-    come_table (after_first c.before pre.rule pre.ready pre.locates)
+    let pre = (start c).requires in
+    come_table (after_first c pre.rule pre.ready pre.locates)
 
-enum-known-located : tie.Need-enum-known-located
+enum-known-located : tie.Need-enum_known-located
 enum-known-located c = search rules
 
-enum_told : tie.Need-enum-told
+enum_told : tie.Need-enum_told-1
 enum_told c = search rules
 
-same-length-5 : tie.Need-same-length-5
+same-length-5 : tie.Need-shape_of-table-in_default
 same-length-5 c = search rules
 
-same-length-6 : tie.Need-same-length-6
+same-length-6 : tie.Need-shape_of-work-in_default
 same-length-6 c = search rules
 
-returns-3 : tie.Need-returns-3
+returns-3 : tie.Need-returns-in_default
 returns-3 c = λ r ready at.
-    let found = c.before.before in
-    let come = after_first found.before.before r ready at in
-    let answer = found.locate.ensures come.rule come.ready.has in
-    let none = nowhere come.rule c.enum_told.given.1 answer in
+    let found = c.before in
+    let come = after_first found.before r ready at in
+    let answer = found.locate-located.ensures come.rule come.ready.has in
+    let none = nowhere come.rule c.in_default.is answer in
     round_answered _ r _ _ (come_over (come_stays come (numbered _) (numbered_none _ _ none)))
 
 numbered-requires-2 : tie.Need-numbered-requires-2
@@ -110,22 +108,21 @@ numbered-requires-2 c κs =
     come_located (after_first (given-first told) pre.rule pre.ready pre.locates)
     (some-there told pre.rule pre.ready pre.locates)
 
-same-length-7 : tie.Need-same-length-7
+same-length-7 : tie.Need-shape_of-table
 same-length-7 c = search rules
 
-same-length-8 : tie.Need-same-length-8
+same-length-8 : tie.Need-shape_of-work
 same-length-8 c = search rules
 
-returns-4 : tie.Need-returns-4
+returns-4 : tie.Need-returns
 returns-4 c = λ r ready at.
-    let call = c.before.before.before.before in
-    let found = call.before.before.before in
+    let found = c.before.before.before.before.before.before.before in
     let come = after_first (given-first found) r ready at in
-    let answer = call.numbered2.ensures come.rule come.ready (some-there found r ready at) in
+    let answer = c.numbered-2.ensures come.rule come.ready (some-there found r ready at) in
     round_answered _ r _ _ (answered_next come (numbered _) _ _ answer)
 
-pub round-spec : {M : Type 1} → statement M
-round-spec =
+pub round_spec : {M : Type 1} → statement M
+round_spec =
     tie.close
     (tie.spec
     numbered-requires

@@ -14,124 +14,120 @@ use Rattle.elimination.proofs.RoundLaws.{round_ended, going_on}
 use Rattle.elimination.proofs.rounds.rounds.Statement.{statement}
 use Rattle.elimination.proofs.rounds.rounds.Tie as tie
 
-abbrev invariant-loop : tie.invariant-loop
+abbrev invariant-loop : tie.invariant-loop-left
 invariant-loop table₀ work₀ room most left₀ table work left =
     (length table ≡ length table₀) × (length work ≡ length work₀)
     × ((r : Rule) → StepReady (words table₀) (words work₀) room r
     → Going (words table) (words work) room left (rounds most room r))
 
-abbrev decreases-loop : tie.decreases-loop
+abbrev decreases-loop : tie.decreases-loop-left
 decreases-loop table₀ work₀ room most left₀ table work left = left
 
 -- the ways back: from a round to where its quantifier was located, from there to the loop
-abbrev located : tie.After-round invariant-loop decreases-loop → tie.After-known-told invariant-loop decreases-loop
+abbrev located : tie.After-round-number invariant-loop decreases-loop → tie.In-There invariant-loop decreases-loop
 located c = c.before.before.before
 
-abbrev loop-of : tie.After-known-told invariant-loop decreases-loop → tie.At-loop invariant-loop decreases-loop
-loop-of c = c.before.before.before.before.before.before
+abbrev loop-of : tie.In-There invariant-loop decreases-loop → tie.At-loop-left invariant-loop decreases-loop
+loop-of c = c.before.before.before
 
-abbrev start : tie.After-known-told invariant-loop decreases-loop → tie.Start invariant-loop decreases-loop
+abbrev start : tie.In-There invariant-loop decreases-loop → tie.Start invariant-loop decreases-loop
 start c = (loop-of c).before.before.before
 
 -- where the quantifier of the rule that the rounds have come to is
-found : (c : tie.After-known-told invariant-loop decreases-loop) (r : Rule)
+found : (c : tie.In-There invariant-loop decreases-loop) (r : Rule)
     (ready : let s = start c in StepReady (words s.args.table.now) (words s.args.work.now) s.args.room r)
-    → Locates ((loop-of c).loop.invariant.2 r ready).rule c.before.located.given.0.0
+    → Locates ((loop-of c).loop-left.invariant.2 r ready).rule c.in-There.c
 found c r ready =
-    let going = (loop-of c).loop.invariant.2 r ready in
-    there going.rule c.before.located.given.1
-    (c.before.before.before.locate.ensures going.rule going.ready.has)
+    let going = (loop-of c).loop-left.invariant.2 r ready in
+    there going.rule c.in-There.is
+    (c.locate-located.ensures going.rule going.ready.has)
 
-loop-holds : tie.Need-loop-init invariant-loop decreases-loop
+loop-holds : tie.Need-loop-left-init invariant-loop decreases-loop
 loop-holds c = (refl, refl, λ r ready. going_first _ r ready)
 
-locate-requires : tie.Need-locate-requires invariant-loop decreases-loop
+locate-requires : tie.Need-locate-located-requires invariant-loop decreases-loop
 locate-requires c κs =
-    let pre = c.before.before.before.before.before.requires in
-    let going = c.before.before.loop.invariant.2 pre.rule pre.ready in
+    let pre = c.requires in
+    let going = c.loop-left.invariant.2 pre.rule pre.ready in
     record { rule = going.rule; has = going.ready.has }
 
-enum-known-located : tie.Need-enum-known-located invariant-loop decreases-loop
+enum-known-located : tie.Need-enum_known-located invariant-loop decreases-loop
 enum-known-located c = search rules
 
-enum_told : tie.Need-enum-told invariant-loop decreases-loop
+enum_told : tie.Need-enum_told-1 invariant-loop decreases-loop
 enum_told c = search rules
 
-same_length : tie.Need-same-length invariant-loop decreases-loop
-same_length c = c.before.before.before.before.before.loop.invariant.0
+same_length : tie.Need-shape_of-table-in_default invariant-loop decreases-loop
+same_length c = c.loop-left.invariant.0
 
-same-length-2 : tie.Need-same-length-2 invariant-loop decreases-loop
-same-length-2 c = c.before.before.before.before.before.loop.invariant.1
+same-length-2 : tie.Need-shape_of-work-in_default invariant-loop decreases-loop
+same-length-2 c = c.loop-left.invariant.1
 
-returns : tie.Need-returns invariant-loop decreases-loop
+returns : tie.Need-returns-in_default invariant-loop decreases-loop
 returns c = λ r ready.
-    let search = c.before.before in
-    let test = search.before.before in
-    let going = test.before.loop.invariant.2 r ready in
-    let told = c.enum_told.given.1 in
-    rounds_end going test.loop-test.true told (search.locate.ensures going.rule going.ready.has)
+    let going = c.loop-left.invariant.2 r ready in
+    let told = c.in_default.is in
+    rounds_end going c.loop-left-test.true told (c.locate-located.ensures going.rule going.ready.has)
 
-round-requires : tie.Need-round-requires invariant-loop decreases-loop
+round-requires : tie.Need-round-number-requires invariant-loop decreases-loop
 round-requires c κs =
     let at = c.before.before in
     let pre = (start at).requires in
-    going_located ((loop-of at).loop.invariant.2 pre.rule pre.ready) (found at pre.rule pre.ready)
+    going_located ((loop-of at).loop-left.invariant.2 pre.rule pre.ready) (found at pre.rule pre.ready)
 
-same-length-3 : tie.Need-same-length-3 invariant-loop decreases-loop
+same-length-3 : tie.Need-shape_of-table-then-number-ne0 invariant-loop decreases-loop
 same-length-3 c =
     let call = c.before.before.before.before.before in
-    call.round.auto.0 ∙ (loop-of (located call)).loop.inv.0
+    call.round-number.auto.table ∙ (loop-of (located call)).loop-left.invariant.0
 
-same-length-4 : tie.Need-same-length-4 invariant-loop decreases-loop
+same-length-4 : tie.Need-shape_of-work-then-number-ne0 invariant-loop decreases-loop
 same-length-4 c =
     let call = c.before.before.before.before.before in
-    call.round.auto.1.0 ∙ (loop-of (located call)).loop.inv.1
+    call.round-number.auto.work ∙ (loop-of (located call)).loop-left.invariant.1
 
-returns-2 : tie.Need-returns-2 invariant-loop decreases-loop
+returns-2 : tie.Need-returns-then-number-ne0 invariant-loop decreases-loop
 returns-2 c = λ r ready.
     let call = c.before.before.before.before.before in
     let at = located call in
-    let test = at.before.before.before.before.before in
-    let going = (loop-of at).loop.inv.2 r ready in
+    let going = (loop-of at).loop-left.invariant.2 r ready in
     let there = found at r ready in
-    round_ended going test.loop-test.taken there _ _ (call.round.ensures going.rule going.ready there)
-    c.if1.true
+    round_ended going at.loop-left-test.true there _ _ (call.round-number.ensures going.rule going.ready there)
+    c.if-number-ne0.true
 
-sub-left : tie.Need-overflow-sub-left invariant-loop decreases-loop
+sub-left : tie.Need-overflow_sub-left invariant-loop decreases-loop
 sub-left c = search rules
 
-loop-less : tie.Need-loop-smaller invariant-loop decreases-loop
+loop-less : tie.Need-loop-left-smaller invariant-loop decreases-loop
 loop-less c =
     let at = located c.before.before.before.before.before in
-    omega (arith, at.before.before.before.before.before.loop-test.taken)
+    omega (arith, at.loop-left-test.true)
 
-loop-again : tie.Need-loop-preserved invariant-loop decreases-loop
+loop-again : tie.Need-loop-left-preserved invariant-loop decreases-loop
 loop-again c =
     let call = c.before.before.before.before.before in
     let at = located call in
-    let test = at.before.before.before.before.before in
-    let inv = (loop-of at).loop.inv in
-    let kept = call.round.auto in (
-      kept.0 ∙ inv.0,
-      kept.1.0 ∙ inv.1,
+    let inv = (loop-of at).loop-left.invariant in
+    let kept = call.round-number.auto in (
+      kept.table ∙ inv.0,
+      kept.work ∙ inv.1,
       λ r ready.
           let going = inv.2 r ready in
           let there = found at r ready in
-          going_on going test.loop-test.taken there _ _ (call.round.ensures going.rule going.ready there)
-          c.if1.false _ (same_words _ _ kept.0) (same_words _ _ kept.1.0),
+          going_on going at.loop-left-test.true there _ _ (call.round-number.ensures going.rule going.ready there)
+          c.if-number-ne0.false _ (same_words _ _ kept.table) (same_words _ _ kept.work),
     )
 
-same-length-5 : tie.Need-same-length-5 invariant-loop decreases-loop
-same-length-5 c = c.before.loop.invariant.0
+same-length-5 : tie.Need-shape_of-table invariant-loop decreases-loop
+same-length-5 c = c.loop-left.invariant.0
 
-same-length-6 : tie.Need-same-length-6 invariant-loop decreases-loop
-same-length-6 c = c.before.loop.invariant.1
+same-length-6 : tie.Need-shape_of-work invariant-loop decreases-loop
+same-length-6 c = c.loop-left.invariant.1
 
-returns-3 : tie.Need-returns-3 invariant-loop decreases-loop
-returns-3 c = λ r ready. rounds_over (c.before.loop.invariant.2 r ready) (omega (arith, c.loop-test.false))
+returns-3 : tie.Need-returns invariant-loop decreases-loop
+returns-3 c = λ r ready. rounds_over (c.loop-left.invariant.2 r ready) (omega (arith, c.loop-left-test.false))
 
-pub rounds-spec : {M : Type 1} → statement M
-rounds-spec =
+pub rounds_spec : {M : Type 1} → statement M
+rounds_spec =
     tie.close
     (tie.spec
     invariant-loop

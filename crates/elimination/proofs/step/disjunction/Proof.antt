@@ -22,241 +22,238 @@ use Rattle.elimination.proofs.step.disjunction.Statement.{statement}
 use Rattle.elimination.proofs.step.disjunction.Tie as tie
 
 -- the ways back: to the start, from what is told of P, from the bounds, from the test of the numbers, from the survey
-abbrev start : tie.After-struct-known → tie.Start
+abbrev start : tie.After-struct_known-1 → tie.Start
 start c = c.before.before.before
 
-abbrev found : tie.After-known-told → tie.After-period
-found c = c.before.before.before
+abbrev found : tie.In-Least → tie.After-period-least
+found c = c.before
 
-abbrev begun : tie.After-known-told → tie.Start
-begun c = start (found c).before.before.before
+abbrev begun : tie.In-Least → tie.Start
+begun c = start (found c).before.before
 
-abbrev told : tie.After-collect → tie.After-known-told
-told c = c.before.before.before.before
+abbrev told : tie.After-collect-k → tie.In-Least
+told c = c.before.before.before
 
-abbrev collect : tie.After-disjuncts-over → tie.After-collect
-collect c = c.before.before.before.before.before
+abbrev collect : tie.After-disjuncts_over → tie.After-collect-k
+collect c = c.before.before.before.before
 
-abbrev fitting : tie.After-of-disjuncts → tie.Else1
-fitting c = c.before.before.before.before.before.before.before.before
+abbrev fitting : tie.After-of_disjuncts-seen → tie.Else-disjuncts_over
+fitting c = c.before.before.before.before.before.before.before
 
 -- a rule's chosen quantifier, where it was located
 abbrev At : tie.Start → Rule → Type 0
 At s r = Placed s.args.table.now (words s.args.work.now) s.args.room r s.args.c
 
 -- P and the bounds, as they are told
-abbrev least : tie.After-collect → ℕ
-least c = (told c).before.least.given.0.0
+abbrev least : tie.After-collect-k → ℕ
+least c = (told c).in-Least.m
 
-abbrev places : tie.After-collect → List ℕ
-places c = c.collect.new.1.1.1.0
+abbrev places : tie.After-collect-k → List ℕ
+places c = c.collect-k.new.places
 
-collected : (c : tie.After-collect) {r : Rule} (p : At (begun (told c)) r)
-    → Collected p (least c) (places c) c.collect.result
+collected : (c : tie.After-collect-k) {r : Rule} (p : At (begun (told c)) r)
+    → Collected p (least c) (places c) c.collect-k.result
 collected c p = record {
-  least = multiple_least (told c).before.least.given.1 ((found (told c)).period.ensures _ _ (the_body p));
-  at = c.collect.ensures _ _ (the_body p);
-  long = c.collect.auto.1.1.1.0;
+  least = multiple_least (told c).in-Least.is ((found (told c)).period-least.ensures _ _ (the_body p));
+  at = c.collect-k.ensures _ _ (the_body p);
+  long = c.collect-k.auto.places;
 }
 
 -- where no number passes the limit, the disjunction can be built
-new : (c : tie.Else1) {r : Rule}
+new : (c : tie.Else-disjuncts_over) {r : Rule}
     → let k = collect c.before in
     let s = begun (told k) in
     (p : At s r)
-    → NewRule (Disjunction (least k) k.collect.result) (part s.args.table.now (s.args.c.place + 2))
+    → NewRule (Disjunction (least k) k.collect-k.result) (part s.args.table.now (s.args.c.place + 2))
     (places k) s.args.c.setting p.body
 new c p =
     let known = collected (collect c.before) p in
-    new_disjunction p known c.if1.false (c.before.disjuncts-over.ensures _ _ (the_body p) known.at)
+    new_disjunction p known c.if-disjuncts_over.false (c.disjuncts_over.ensures _ _ (the_body p) known.at)
 
 -- what is planned for the body
-plan-is : (c : tie.After-planned) {r : Rule}
+plan-is : (c : tie.After-planned-plan) {r : Rule}
     → let k = collect (fitting c.before).before in
     let s = begun (told k) in
     (p : At s r)
-    → Planned s.args.room (least k) k.collect.result s.args.c.setting p.body c.planned.result
+    → Planned s.args.room (least k) k.collect-k.result s.args.c.setting p.body c.planned-plan.result
 plan-is c p =
     let known = collected (collect (fitting c.before).before) p in
-    c.planned.ensures _ _ (c.before.of-disjuncts.ensures _ (body_judged p known))
+    c.planned-plan.ensures _ _ (c.of_disjuncts-seen.ensures _ (body_judged p known))
 
-add_start : tie.Need-overflow-add-start
+add_start : tie.Need-overflow_add-start
 add_start c = omega (arith, (places_near (the_place (start c).requires)).1)
 
-mul-start : tie.Need-overflow-mul-start
+mul-start : tie.Need-overflow_mul-start
 mul-start c = omega (arith, (places_near (the_place (start c).requires)).1)
 
-sub-period : tie.Need-overflow-sub-period
+sub-period : tie.Need-slice_bounds-period-count
 sub-period c = body_within (the_place (start c).requires)
 
-part-period-start : tie.Need-slice-bounds-period-start
-part-period-start c = body_within (the_place (start c.before).requires)
+part-period-start : tie.Need-slice_bounds-period-start
+part-period-start c = body_within (the_place (start c).requires)
 
-part-period-end : tie.Need-slice-bounds-period-end
+part-period-end : tie.Need-slice_bounds-period-end
 part-period-end c = search rules
 
-period-requires : tie.Need-period-requires
-period-requires c κs = some_body (the_place (start c.before.before).requires)
+period-requires : tie.Need-period-least-requires
+period-requires c κs = some_body (the_place (start c.before).requires)
 
-enum-known-least : tie.Need-enum-known-least
+enum-known-least : tie.Need-enum_known-least
 enum-known-least c = search rules
 
-enum_told : tie.Need-enum-told
+enum_told : tie.Need-enum_told-1
 enum_told c = search rules
 
-same_length : tie.Need-same-length
+same_length : tie.Need-shape_of-table-in_default
 same_length c = search rules
 
-returns : tie.Need-returns
+returns : tie.Need-returns-in_default
 returns c = λ r ready at.
     let p = placed ready at in
-    period_over p _ (multiple_over c.enum_told.given.1 (c.before.before.period.ensures _ _ (the_body p)))
+    period_over p _ (multiple_over c.in_default.is (c.period-least.ensures _ _ (the_body p)))
 
-cast-period : tie.Need-overflow-cast-period
+cast-period : tie.Need-overflow_cast-period
 cast-period c = search rules
 
-sub-collect : tie.Need-overflow-sub-collect
+sub-collect : tie.Need-slice_bounds-collect-count
 sub-collect c = body_within (the_place (begun c).requires)
 
-part-collect-start : tie.Need-slice-bounds-collect-start
-part-collect-start c = body_within (the_place (begun c.before).requires)
+part-collect-start : tie.Need-slice_bounds-collect-start
+part-collect-start c = body_within (the_place (begun c).requires)
 
-part-collect-end : tie.Need-slice-bounds-collect-end
+part-collect-end : tie.Need-slice_bounds-collect-end
 part-collect-end c = search rules
 
-slice-aggregate-collect : tie.Need-slice-aggregate-collect
+slice-aggregate-collect : tie.Need-slice_bounds-collect-end-2
 slice-aggregate-collect c = search rules
 
-collect-requires : tie.Need-collect-requires
+collect-requires : tie.Need-collect-k-requires
 collect-requires c κs =
-    let p = the_place (begun c.before.before.before).requires in
+    let p = the_place (begun c.before.before).requires in
     (some_body p, (in_range p).0, (in_range p).1, room_for_bounds p)
 
-sub-disjuncts-over : tie.Need-overflow-sub-disjuncts-over
+sub-disjuncts-over : tie.Need-slice_bounds-disjuncts_over-count
 sub-disjuncts-over c = body_within (the_place (begun (told c.before)).requires)
 
-part-disjuncts-over-start : tie.Need-slice-bounds-disjuncts-over-start
-part-disjuncts-over-start c = body_within (the_place (begun (told c.before.before)).requires)
+part-disjuncts-over-start : tie.Need-slice_bounds-disjuncts_over-start
+part-disjuncts-over-start c = body_within (the_place (begun (told c.before)).requires)
 
-part-disjuncts-over-end : tie.Need-slice-bounds-disjuncts-over-end
+part-disjuncts-over-end : tie.Need-slice_bounds-disjuncts_over-end
 part-disjuncts-over-end c = search rules
 
-slice-aggregate-disjuncts-over : tie.Need-slice-aggregate-disjuncts-over
+slice-aggregate-disjuncts-over : tie.Need-slice_bounds-disjuncts_over-end-2
 slice-aggregate-disjuncts-over c = search rules
 
-disjuncts-over-requires : tie.Need-disjuncts-over-requires
+disjuncts-over-requires : tie.Need-disjuncts_over-requires
 disjuncts-over-requires c κs =
-    let k = c.before.before.before.before in
+    let k = c.before.before.before in
     let p = the_place (begun (told k)).requires in
     let known = collected k p in
     let fair = fair_period p known in
     (some_bounds p known, (in_range p).0, (in_range p).1, fair.0, fair.1)
 
-same-length-2 : tie.Need-same-length-2
+same-length-2 : tie.Need-shape_of-table-then-disjuncts_over
 same-length-2 c = search rules
 
-returns-2 : tie.Need-returns-2
+returns-2 : tie.Need-returns-then-disjuncts_over
 returns-2 c = λ r ready at.
     let over = c.before in
     let p = placed ready at in
     let known = collected (collect over) p in
-    disjuncts_over p known _ c.if1.true (over.disjuncts-over.ensures _ _ (the_body p) known.at)
+    disjuncts_over p known _ c.if-disjuncts_over.true (over.disjuncts_over.ensures _ _ (the_body p) known.at)
 
-add-entry : tie.Need-overflow-add-entry
+add-entry : tie.Need-overflow_add-entry
 add-entry c = omega (arith, (places_near (the_place (begun (told (collect c.before.before))).requires)).0)
 
-mul-entry : tie.Need-overflow-mul-entry
+mul-entry : tie.Need-overflow_mul-entry
 mul-entry c = omega (arith, (places_near (the_place (begun (told (collect c.before.before))).requires)).0)
 
-sub-of-disjuncts : tie.Need-overflow-sub-of-disjuncts
+sub-of-disjuncts : tie.Need-slice_bounds-of_disjuncts-count
 sub-of-disjuncts c = entry_within (the_place (begun (told (collect c.before.before))).requires)
 
-part-of-disjuncts-start : tie.Need-slice-bounds-of-disjuncts-start
-part-of-disjuncts-start c = entry_within (the_place (begun (told (collect c.before.before.before))).requires)
+part-of-disjuncts-start : tie.Need-slice_bounds-of_disjuncts-start
+part-of-disjuncts-start c = entry_within (the_place (begun (told (collect c.before.before))).requires)
 
-part-of-disjuncts-end : tie.Need-slice-bounds-of-disjuncts-end
+part-of-disjuncts-end : tie.Need-slice_bounds-of_disjuncts-end
 part-of-disjuncts-end c = search rules
 
-sub-of-disjuncts-2 : tie.Need-overflow-sub-of-disjuncts-2
-sub-of-disjuncts-2 c = body_within (the_place (begun (told (collect c.before.before.before.before))).requires)
+sub-of-disjuncts-2 : tie.Need-slice_bounds-of_disjuncts-count-2
+sub-of-disjuncts-2 c = body_within (the_place (begun (told (collect c.before.before.before))).requires)
 
-part-of-disjuncts-start-2 : tie.Need-slice-bounds-of-disjuncts-start-2
-part-of-disjuncts-start-2 c = body_within (the_place (begun (told (collect c.before.before.before.before))).requires)
+part-of-disjuncts-start-2 : tie.Need-slice_bounds-of_disjuncts-start-2
+part-of-disjuncts-start-2 c = body_within (the_place (begun (told (collect c.before.before.before))).requires)
 
-part-of-disjuncts-end-2 : tie.Need-slice-bounds-of-disjuncts-end-2
+part-of-disjuncts-end-2 : tie.Need-slice_bounds-of_disjuncts-end-2
 part-of-disjuncts-end-2 c = search rules
 
-add-of-disjuncts : tie.Need-overflow-add-of-disjuncts
+add-of-disjuncts : tie.Need-overflow_add-c
 add-of-disjuncts c =
-    let over = c.before.before.before.before.before.before in
+    let over = c.before.before.before.before.before in
     omega (arith, (places_near (the_place (begun (told (collect over))).requires)).0)
 
-add-of-disjuncts-2 : tie.Need-overflow-add-of-disjuncts-2
+add-of-disjuncts-2 : tie.Need-overflow_add-c-2
 add-of-disjuncts-2 c =
-    let over = c.before.before.before.before.before.before.before in
+    let over = c.before.before.before.before.before.before in
     omega (arith, (places_near (the_place (begun (told (collect over))).requires)).1)
 
-slice-aggregate-of-disjuncts : tie.Need-slice-aggregate-of-disjuncts
+slice-aggregate-of-disjuncts : tie.Need-slice_bounds-of_disjuncts-end-3
 slice-aggregate-of-disjuncts c = search rules
 
-of-disjuncts-requires : tie.Need-of-disjuncts-requires
+of-disjuncts-requires : tie.Need-of_disjuncts-seen-requires
 of-disjuncts-requires c κs =
-    let k = collect c.before.before.before.before.before.before.before.before in
+    let k = collect c.before.before.before.before.before.before.before in
     let p = the_place (begun (told k)).requires in
     survey_asks p (collected k p)
 
-planned-requires : tie.Need-planned-requires
+planned-requires : tie.Need-planned-plan-requires
 planned-requires c κs = search rules
 
-enum-known-plan : tie.Need-enum-known-plan
+enum-known-plan : tie.Need-enum_known-plan
 enum-known-plan c = search rules
 
-enum-told-2 : tie.Need-enum-told-2
+enum-told-2 : tie.Need-enum_told-in_default-plan
 enum-told-2 c = search rules
 
-same-length-3 : tie.Need-same-length-3
+same-length-3 : tie.Need-shape_of-table-in_default-plan
 same-length-3 c = search rules
 
-returns-3 : tie.Need-returns-3
+returns-3 : tie.Need-returns-in_default-plan
 returns-3 c = λ r ready at.
-    let plan = c.before.before in
+    let plan = c.before in
     let test = fitting plan.before in
     let p = placed ready at in
-    too_long p (collected (collect test.before) p) (new test p) _ c.enum-told2.given.1 (plan-is plan p)
+    too_long p (collected (collect test.before) p) (new test p) _ c.in_default-plan.is (plan-is plan p)
 
-slice-aggregate-rebuilt : tie.Need-slice-aggregate-rebuilt
+slice-aggregate-rebuilt : tie.Need-slice_bounds-rebuilt-end
 slice-aggregate-rebuilt c = search rules
 
 rebuilt-requires : tie.Need-rebuilt-requires
 rebuilt-requires c κs =
-    let made = c.before.before.before.before in
-    let plan = made.before.before in
+    let plan = c.before.before.before.before in
     let test = fitting plan.before in
     let k = collect test.before in
     let p = the_place (begun (told k)).requires in
-    some_rebuilding p refl (new_planned p (collected k p) (new test p) made.plan.given.1 (plan-is plan p))
+    some_rebuilding p refl (new_planned p (collected k p) (new test p) c.in-Make.is (plan-is plan p))
 
-same-length-4 : tie.Need-same-length-4
+same-length-4 : tie.Need-shape_of-table
 same-length-4 c = search rules
 
-same-length-5 : tie.Need-same-length-5
+same-length-5 : tie.Need-shape_of-work
 same-length-5 c = search rules
 
-returns-4 : tie.Need-returns-4
+returns-4 : tie.Need-returns
 returns-4 c = λ r ready at.
-    let done = c.before.before.before.before in
-    let made = done.before.before.before.before.before in
-    let plan = made.before.before in
+    let plan = c.before.before.before.before.before.before.before.before.before in
     let test = fitting plan.before in
     let p = placed ready at in
     let known = collected (collect test.before) p in
-    let is = made.plan.given.1 in
+    let is = c.in-Make.is in
     let planned = plan-is plan p in
     planned_stepped p known (new test p) is planned _ _
-    (done.rebuilt.ensures r _ _ _ (rebuilding p refl (new_planned p known (new test p) is planned)))
+    (c.rebuilt.ensures r _ _ _ (rebuilding p refl (new_planned p known (new test p) is planned)))
 
-pub disjunction-spec : {M : Type 1} → statement M
-disjunction-spec =
+pub disjunction_spec : {M : Type 1} → statement M
+disjunction_spec =
     tie.close
     (tie.spec
     add_start

@@ -11,58 +11,57 @@ use Rattle.elimination.proofs.step.normal_form.Statement.{statement}
 use Rattle.elimination.proofs.step.normal_form.Tie as tie
 
 -- the ways back: to the start, and from the test of the numbers to the call that tells of them
-abbrev start : tie.After-normal-over → tie.Start
-start c = c.before.before.before.before.before
+abbrev start : tie.After-normal_over → tie.Start
+start c = c.before.before.before.before
 
-abbrev told : tie.Else1 → tie.After-normal-over
+abbrev told : tie.Else-normal_over → tie.After-normal_over
 told c = c.before.before.before
 
 -- the work buffer keeps its length
-kept : (c : tie.After-normal-over)
-    → length (words c.normal-over.new.1.0) ≡ length (words (start c).args.work.now)
-kept c = same_words c.normal-over.new.1.0 (start c).args.work.now c.normal-over.auto.1.0
+kept : (c : tie.After-normal_over)
+    → length (words c.normal_over.new.work) ≡ length (words (start c).args.work.now)
+kept c = same_words c.normal_over.new.work (start c).args.work.now c.normal_over.auto.work
 
-normal-over-requires : tie.Need-normal-over-requires
-normal-over-requires c κs = (_, c.before.before.before.before.requires)
+normal-over-requires : tie.Need-normal_over-requires
+normal-over-requires c κs = (_, c.requires)
 
-same_length : tie.Need-same-length
+same_length : tie.Need-shape_of-table-then-normal_over
 same_length c = search rules
 
-same-length-2 : tie.Need-same-length-2
+same-length-2 : tie.Need-shape_of-work-then-normal_over
 same-length-2 c = search rules
 
-returns : tie.Need-returns
+returns : tie.Need-returns-then-normal_over
 returns c = λ r ready at.
-    let over = c.before.before.before.normal-over in
-    normal_refused (placed ready at) _ c.if1.true (over.ensures _ r ready at)
+    let over = c.normal_over in
+    normal_refused (placed ready at) _ c.if-normal_over.true (over.ensures _ r ready at)
 
-slice-aggregate-rebuilt : tie.Need-slice-aggregate-rebuilt
+slice-aggregate-rebuilt : tie.Need-slice_bounds-rebuilt-end
 slice-aggregate-rebuilt c = search rules
 
 rebuilt-requires : tie.Need-rebuilt-requires
 rebuilt-requires c κs =
     let test = c.before.before.before in
     let pre = (start (told test)).requires in
-    let over = (told test).normal-over.ensures _ pre.rule pre.ready pre.locates in
+    let over = (told test).normal_over.ensures _ pre.rule pre.ready pre.locates in
     let p = the_place pre in
-    some_rebuilding p (kept (told test)) (new_normal p _ _ test.if1.false over)
+    some_rebuilding p (kept (told test)) (new_normal p _ _ test.if-normal_over.false over)
 
-same-length-3 : tie.Need-same-length-3
+same-length-3 : tie.Need-shape_of-table
 same-length-3 c = search rules
 
-same-length-4 : tie.Need-same-length-4
+same-length-4 : tie.Need-shape_of-work
 same-length-4 c = search rules
 
-returns-2 : tie.Need-returns-2
+returns-2 : tie.Need-returns
 returns-2 c = λ r ready at.
-    let done = c.before.before.before.before in
-    let test = done.before.before.before.before in
+    let test = c.before.before.before.before.before.before.before.before in
     let p = placed ready at in
-    let new = new_normal p _ _ test.if1.false ((told test).normal-over.ensures _ r ready at) in
-    normal_stepped p _ _ new (done.rebuilt.ensures r _ _ _ (rebuilding p (kept (told test)) new))
+    let new = new_normal p _ _ test.if-normal_over.false ((told test).normal_over.ensures _ r ready at) in
+    normal_stepped p _ _ new (c.rebuilt.ensures r _ _ _ (rebuilding p (kept (told test)) new))
 
-pub normal-form-spec : {M : Type 1} → statement M
-normal-form-spec =
+pub normal_form_spec : {M : Type 1} → statement M
+normal_form_spec =
     tie.close
     (tie.spec
     normal-over-requires
