@@ -14,76 +14,75 @@ use Rattle.leaveoff.proofs.eliminate.eliminate.Statement.{statement}
 use Rattle.leaveoff.proofs.eliminate.eliminate.Tie as tie
 
 -- the ways back: from the room, and from the steps
-abbrev start : tie.After-room → tie.Start
+abbrev start : tie.After-room-room → tie.Start
 start c = c.before.before.before.before
 
-abbrev roomed : tie.After-stepped → tie.After-room
+abbrev roomed : tie.After-stepped-number → tie.After-room-room
 roomed c = c.before.before.before
 
 -- the steps' end, in the whole output buffer
-ended : (c : tie.After-stepped)
+ended : (c : tie.After-stepped-number)
     → let r = roomed c in
     let args = (start r).args in
-    Ended (steps_of args.t.now r.room.result) c.stepped.result
-    (words (c.stepped.new.1.0 ++ drop (r.room.result * 4) args.out.now))
+    Ended (steps_of args.t.now r.room-room.result) c.stepped-number.result
+    (words (c.stepped-number.new.out ++ drop (r.room-room.result * 4) args.out.now))
 ended c =
     let r = roomed c in
     let args = (start r).args in
-    let n = r.room.result in
+    let n = r.room-room.result in
     let (in-out, in-work, most) =
-    room_there (length args.out.now) (length args.work.now) n r.room.ensures in
-    let call = c.stepped in
-    part_ended 7 _ _ n args.out.now _ (steps_by _ n) (steps_give _ n) most in-out call.auto.1.0 call.ensures
+    room_there (length args.out.now) (length args.work.now) n r.room-room.ensures in
+    let call = c.stepped-number in
+    part_ended 7 _ _ n args.out.now _ (steps_by _ n) (steps_give _ n) most in-out call.auto.out call.ensures
 
-room-requires : tie.Need-room-requires
+room-requires : tie.Need-room-room-requires
 room-requires c κs = search rules
 
-mul-end : tie.Need-overflow-mul-end
+mul-end : tie.Need-overflow_mul-end
 mul-end c = search rules
 
-slice-relend-prefix-stepped : tie.Need-slice-relend-prefix-stepped
+slice-relend-prefix-stepped : tie.Need-slice_bounds-stepped-end
 slice-relend-prefix-stepped c = search rules
 
-slice-aggregate-stepped : tie.Need-slice-aggregate-stepped
+slice-aggregate-stepped : tie.Need-slice_bounds-stepped-end-2
 slice-aggregate-stepped c =
     let r = c.before in
-    part_length _ _ (room_there _ (length (start r).args.work.now) r.room.result r.room.ensures).0
+    part_length _ _ (room_there _ (length (start r).args.work.now) r.room-room.result r.room-room.ensures).0
 
-slice-relend-prefix-stepped-2 : tie.Need-slice-relend-prefix-stepped-2
+slice-relend-prefix-stepped-2 : tie.Need-slice_bounds-stepped-end-3
 slice-relend-prefix-stepped-2 c = search rules
 
-slice-aggregate-stepped-2 : tie.Need-slice-aggregate-stepped-2
+slice-aggregate-stepped-2 : tie.Need-slice_bounds-stepped-end-4
 slice-aggregate-stepped-2 c =
     let r = c.before.before in
-    part_length _ _ (room_there (length (start r).args.out.now) _ r.room.result r.room.ensures).1
+    part_length _ _ (room_there (length (start r).args.out.now) _ r.room-room.result r.room-room.ensures).1
 
-stepped-requires : tie.Need-stepped-requires
-stepped-requires c κs = parts_ready _ _ _ c.before.before.room.ensures
+stepped-requires : tie.Need-stepped-number-requires
+stepped-requires c κs = parts_ready _ _ _ c.room-room.ensures
 
 leave-requires : tie.Need-leave-requires
 leave-requires c κs =
     record { end = _; ended = ended c.before.before.before.before.before.before }
 
-same_length : tie.Need-same-length
+same_length : tie.Need-shape_of-out
 same_length c = search rules
 
-same-length-2 : tie.Need-same-length-2
+same-length-2 : tie.Need-shape_of-work
 same-length-2 c = search rules
 
 returns : tie.Need-returns
 returns c =
-    let left = c.before.before.before.before in
-    let s = left.before.before.before.before.before.before.before in
+    let s = c.before.before.before.before.before.before.before.before.before.before.before in
     let r = roomed s in
     let args = (start r).args in
-    let n = r.room.result * 4 in
+    let n = r.room-room.result * 4 in
     eliminates_so args.t.now _ _
-    (outcome_in (steps_of args.t.now) (left.leave.ensures _ (ended s))
-    (whole_length args.out.now s.stepped.new.1.0 n s.stepped.auto.1.0)
-    (whole_length args.work.now s.stepped.new.1.1.0 n s.stepped.auto.1.1.0) r.room.ensures)
+    (outcome_in (steps_of args.t.now) (c.leave.ensures _ (ended s))
+    (whole_length args.out.now s.stepped-number.new.out n s.stepped-number.auto.out)
+    (whole_length args.work.now s.stepped-number.new.work n s.stepped-number.auto.work) r.room-room.ensures)
 
-pub eliminate-spec : {M : Type 1} → statement M
-eliminate-spec =
+pub eliminate_spec : {M : Type 1} → statement M
+eliminate_spec =
     tie.close
     (tie.spec
     room-requires

@@ -18,12 +18,11 @@ calls = (matches-reads.Asked, matches-reads.Learnt, pack-reads.Asked, pack-reads
 
 -- the answer is the outcome of the values as they were given
 outcome : (c : lts.After-matches calls reads.Pre reads.Post)
-    → (let a = c.before.before.args in
+    → (let a = c.args in
     answer_of c.matches.result ≡ matched a.table.now a.s1 a.s2 a.s3 a.s4 a.s5 a.s6)
 outcome c =
-    let start = c.before.before in
-    let f = start.ranges in
-    matched_again start.args.table.now f.s1 f.s2 f.s3 f.s4 f.s5 f.s6 c.matches.ensures.0
+    let f = c.ranges in
+    matched_again c.args.table.now f.s1 f.s2 f.s3 f.s4 f.s5 f.s6 c.matches.ensures.0
 
 matches-requires : tie.Need-matches-requires
 matches-requires c κs = search rules
@@ -37,5 +36,5 @@ returns c =
     let back = ap unpacked packed-is ∙ packed_back _ (matched_fits _ _ _ _ _ _ _) in
     (packed-is, subst (SaysWhether _ _) (sym back) (says_whether _ _ _ _ _ _ _))
 
-pub leaveoff-match-spec : {M : Type 1} → statement M
-leaveoff-match-spec = tie.close (tie.spec matches-requires pack-requires returns)
+pub leaveoff_match_spec : {M : Type 1} → statement M
+leaveoff_match_spec = tie.close (tie.spec matches-requires pack-requires returns)

@@ -16,81 +16,78 @@ use Rattle.leaveoff.proofs.leave_off.tested.Statement.{statement}
 use Rattle.leaveoff.proofs.leave_off.tested.Tie as tie
 
 -- the ways back: from where a table passed the check, and from whether v is a setting
-abbrev start : tie.After-checked → tie.Start
-start c = c.before.before.before.before.before.before
+abbrev start : tie.In-Table → tie.Start
+start c = c.before.before.before.before.before
 
-abbrev passing : tie.After-is-setting → tie.After-checked
-passing c = c.before.before
+abbrev passing : tie.After-is_setting → tie.In-Table
+passing c = c.before
 
 -- the rule whose table passed the check
-table : (c : tie.After-checked) → (r : Rule) × TableOf (start c).args.t.now c.checked.given.0.0 r
-table c = passed _ _ c.checked.given.1 c.before.before.check.ensures
+table : (c : tie.In-Table) → (r : Rule) × TableOf (start c).args.t.now c.in-Table.n r
+table c = passed _ _ c.in-Table.is c.check-checked.ensures
 
-check-requires : tie.Need-check-requires
+check-requires : tie.Need-check-checked-requires
 check-requires c κs = search rules
 
-enum-known-checked : tie.Need-enum-known-checked
+enum-known-checked : tie.Need-enum_known-checked
 enum-known-checked c = search rules
 
-enum_told : tie.Need-enum-told
+enum_told : tie.Need-enum_told-1
 enum_told c = search rules
 
 number-requires : tie.Need-number-requires
 number-requires c κs = search rules
 
-returns : tie.Need-returns
+returns : tie.Need-returns-in_default
 returns c =
-    let refusing = c.before in
-    let checked = refusing.before.before in
-    test_refused _ _ _ _ _ refusing.enum_told.given.1 checked.check.ensures c.number.ensures
+    test_refused _ _ _ _ _ c.in_default.is c.check-checked.ensures c.number.ensures
 
-is-setting-requires : tie.Need-is-setting-requires
+is-setting-requires : tie.Need-is_setting-requires
 is-setting-requires c κs = search rules
 
-cast-answered : tie.Need-overflow-cast-answered
+cast-answered : tie.Need-overflow_cast-v
 cast-answered c =
     let asked = c.before in
-    is_natural _ (start (passing asked)).ranges.v asked.is-setting.ensures c.if1.true
+    is_natural _ (start (passing asked)).ranges.v asked.is_setting.ensures c.if-is_setting.true
 
 answered-requires : tie.Need-answered-requires
 answered-requires c κs =
     let found = c.before.before in
     let p = passing found.before in
     let s = start p in (
-      subst (Verdict _) p.checked.given.1 p.before.before.check.ensures,
-      passes _ s.fits.v found.before.is-setting.ensures found.if1.true,
-      s.pre,
+      subst (Verdict _) p.in-Table.is p.check-checked.ensures,
+      passes _ s.ranges.v found.is_setting.ensures found.if-is_setting.true,
+      s.requires,
     )
 
-same_length : tie.Need-same-length
+same_length : tie.Need-shape_of-out-then-is_setting
 same_length c = search rules
 
-same-length-2 : tie.Need-same-length-2
+same-length-2 : tie.Need-shape_of-work-then-is_setting
 same-length-2 c = search rules
 
-returns-2 : tie.Need-returns-2
+returns-2 : tie.Need-returns-then-is_setting
 returns-2 c =
-    let made = c.before.before.before.before in
-    let found = made.before.before.before in
+    let found = c.before.before.before.before.before.before.before in
     let p = passing found.before in
     let s = start p in
     let (r, t) = table p in
     answered _ _ (test_is _ _ t)
     (subst
-    (λ (v : ℤ). Stepped (leave_off s.args.room v r) made.answered.result
-    (words made.answered.new.1.1.1.0))
-    (setting_again _ s.fits.v found.before.is-setting.ensures found.if1.true)
-    (made.answered.ensures r t.decodes))
+    (λ (v : ℤ). Stepped (leave_off s.args.room v r) c.answered.result
+    (words c.answered.new.out))
+    (setting_again _ s.ranges.v found.is_setting.ensures found.if-is_setting.true)
+    (c.answered.ensures r t.decodes))
 
-returns-3 : tie.Need-returns-3
+returns-3 : tie.Need-returns
 returns-3 c =
     let p = passing c.before in
     let (r, t) = table p in
     answered _ _ (test_is _ _ t)
-    (no_setting _ _ r _ (none_found _ (start p).fits.v c.before.is-setting.ensures c.if1.false))
+    (no_setting _ _ r _ (none_found _ (start p).ranges.v c.is_setting.ensures c.if-is_setting.false))
 
-pub tested-spec : {M : Type 1} → statement M
-tested-spec =
+pub tested_spec : {M : Type 1} → statement M
+tested_spec =
     tie.close
     (tie.spec
     check-requires

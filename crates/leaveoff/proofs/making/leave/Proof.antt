@@ -12,47 +12,41 @@ start c = c.before.before.before.before
 zero-requires : tie.Need-zero-requires
 zero-requires c κs = search rules
 
-zero-requires-2 : tie.Need-zero-requires-2
+zero-requires-2 : tie.Need-zero-requires-then-number-ne0
 zero-requires-2 c κs = search rules
 
 refused-requires : tie.Need-refused-requires
 refused-requires c κs = search rules
 
-same_length : tie.Need-same-length
+same_length : tie.Need-shape_of-out-then-number-ne0
 same_length c = search rules
 
-same-length-2 : tie.Need-same-length-2
+same-length-2 : tie.Need-shape_of-work-then-number-ne0
 same-length-2 c = search rules
 
-returns : tie.Need-returns
+returns : tie.Need-returns-then-number-ne0
 returns c = λ x ended.
-    let cleared = c.before.before.before in
-    let refusing = cleared.before.before in
-    let no-work = refusing.before.before.before in
-    refused_outcome _ _ (end_refused x _ _ ended refusing.if1.true) c.refused.ensures cleared.zero2.ensures
-    no-work.zero.ensures
+    refused_outcome _ _ (end_refused x _ _ ended c.if-number-ne0.true) c.refused.ensures c.zero-then-number-ne0.ensures
+    c.zero.ensures
 
 result-requires : tie.Need-result-requires
 result-requires c κs =
     let answering = c.before in
     let pre = (start answering.before.before.before).requires in
-    let (f, e, held) = end_given pre.end _ _ pre.ended answering.if1.false in
+    let (f, e, held) = end_given pre.end _ _ pre.ended answering.if-number-ne0.false in
     record { rule = f; held = held }
 
-same-length-3 : tie.Need-same-length-3
+same-length-3 : tie.Need-shape_of-out
 same-length-3 c = search rules
 
-same-length-4 : tie.Need-same-length-4
+same-length-4 : tie.Need-shape_of-work
 same-length-4 c = search rules
 
-returns-2 : tie.Need-returns-2
+returns-2 : tie.Need-returns
 returns-2 c = λ x ended.
-    let finished = c.before.before in
-    let answering = finished.before.before in
-    let no-work = answering.before.before.before in
-    let (f, e, held) = end_given x _ _ ended answering.if1.false in
-    let (answer, bytes) = finished.result.ensures f held in
-    given_outcome _ _ e answer bytes no-work.zero.ensures
+    let (f, e, held) = end_given x _ _ ended c.if-number-ne0.false in
+    let (answer, bytes) = c.result.ensures f held in
+    given_outcome _ _ e answer bytes c.zero.ensures
 
 pub leave_spec : {M : Type 1} → statement M
 leave_spec =

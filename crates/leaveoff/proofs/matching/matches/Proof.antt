@@ -31,58 +31,55 @@ calls = (
 -- an answer a that says what matching gave
 answer : (c : lts.After-matches calls reads.Pre reads.Post) {a : Answer} {m : Matched} → c.matches.result ≡ m
     → a ≡ match_answer (result_of m)
-    → (let start = c.before.before.args in
+    → (let start = c.args in
     (a ≡ matched start.t.now start.s1 start.s2 start.s3 start.s4 start.s5 start.s6)
     × SaysWhether start.t.now
     (start.s1 ∷ start.s2 ∷ start.s3 ∷ start.s4 ∷ start.s5 ∷ start.s6 ∷ []) a)
 answer c is e =
-    let f = c.before.before.ranges in
+    let f = c.ranges in
     matched_answer _ f.s1 f.s2 f.s3 f.s4 f.s5 f.s6 is e c.matches.ensures
 
 matches-requires : tie.Need-matches-requires
 matches-requires c κs = search rules
 
-enum-known-k : tie.Need-enum-known-k
+enum-known-k : tie.Need-enum_known-k
 enum-known-k c = search rules
 
 refused-requires : tie.Need-refused-requires
 refused-requires c κs = search rules
 
-enum_told : tie.Need-enum-told
+enum_told : tie.Need-enum_told-1
 enum_told c = search rules
 
 matched-requires : tie.Need-matched-requires
 matched-requires c κs = search rules
 
-enum-told-2 : tie.Need-enum-told-2
+enum-told-2 : tie.Need-enum_told-in-Fails
 enum-told-2 c = search rules
 
-matched-requires-2 : tie.Need-matched-requires-2
+matched-requires-2 : tie.Need-matched-requires-in-Fails
 matched-requires-2 c κs = search rules
 
-returns : tie.Need-returns
+returns : tie.Need-returns-in-Refused
 unfolding match_answer
 returns c =
-    let told = c.before.before in
-    let gave = told.before.before in
-    answer gave told.k.given.1 c.refused.ensures
+    let gave = c.before.before in
+    answer gave c.in-Refused.is c.refused.ensures
 
-returns-2 : tie.Need-returns-2
+returns-2 : tie.Need-returns-in-Holds
 unfolding match_answer
 returns-2 c =
-    let told = c.before in
-    let gave = told.before.before in
-    answer gave told.enum_told.given.1 c.matched.ensures
+    let gave = c.before.before in
+    answer gave c.in-Holds.is c.matched.ensures
 
-returns-3 : tie.Need-returns-3
+returns-3 : tie.Need-returns-in-Fails
 unfolding match_answer
 returns-3 c =
-    let told = c.before in
-    let gave = told.before.before in
-    answer gave told.enum-told2.given.1 c.matched2.ensures
+    let gave = c.before.before in
+    answer gave c.in-Fails.is c.matched-in-Fails.ensures
 
-pub matches-spec : {M : Type 1} → statement M
-matches-spec =
+pub matches_spec : {M : Type 1} → statement M
+matches_spec =
     tie.close
     (tie.spec
     matches-requires

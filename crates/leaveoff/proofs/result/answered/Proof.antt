@@ -12,79 +12,77 @@ use Rattle.leaveoff.proofs.result.answered.Statement.{statement}
 use Rattle.leaveoff.proofs.result.answered.Tie as tie
 
 -- a rule whose table this is, once its nodes are counted
-table : (c : tie.After-whole) (r : Rule) → HasTable (words c.before.before.args.table.now) r
-    → ReadTable c.before.before.args.table.now c.whole.result.nodes r
-table c r has = record { has = has; counted = (c.whole.ensures r has).0 }
+table : (c : tie.After-whole-rule) (r : Rule) → HasTable (words c.args.table.now) r
+    → ReadTable c.args.table.now c.whole-rule.result.nodes r
+table c r has = record { has = has; counted = (c.whole-rule.ensures r has).0 }
 
 -- the one that is asked for
-the-table : (c : tie.After-whole)
-    → ReadTable c.before.before.args.table.now c.whole.result.nodes c.before.before.requires.rule
-the-table c = let start = c.before.before in table c start.requires.rule start.requires.has
+the-table : (c : tie.After-whole-rule)
+    → ReadTable c.args.table.now c.whole-rule.result.nodes c.requires.rule
+the-table c = table c c.requires.rule c.requires.has
 
 -- it has as many words as a table may have
-few : (c : tie.After-whole) → c.whole.result.nodes + 1 + c.whole.result.words ≤ 16384
-few c = let t = the-table c in words_few t _ (c.whole.ensures _ t.has).1
+few : (c : tie.After-whole-rule) → c.whole-rule.result.nodes + 1 + c.whole-rule.result.words ≤ 16384
+few c = let t = the-table c in words_few t _ (c.whole-rule.ensures _ t.has).1
 
-whole-requires : tie.Need-whole-requires
+whole-requires : tie.Need-whole-rule-requires
 whole-requires c κs = search rules
 
-add-from : tie.Need-overflow-add-from
+add-from : tie.Need-overflow_add-from
 add-from c = omega (arith, bodies_near (the-table c.before))
 
-mul-from : tie.Need-overflow-mul-from
+mul-from : tie.Need-overflow_mul-from
 mul-from c = omega (arith, bodies_near (the-table c.before))
 
-sub-verdict : tie.Need-overflow-sub-verdict
+sub-verdict : tie.Need-slice_bounds-verdict-count
 sub-verdict c = (starts_inside (the-table c.before)).1
 
-part-verdict-start : tie.Need-slice-bounds-verdict-start
+part-verdict-start : tie.Need-slice_bounds-verdict-start
 part-verdict-start c = (starts_inside (the-table c.before)).1
 
-part-verdict-end : tie.Need-slice-bounds-verdict-end
+part-verdict-end : tie.Need-slice_bounds-verdict-end
 part-verdict-end c = search rules
 
-verdict-requires : tie.Need-verdict-requires
+verdict-requires : tie.Need-verdict-verdict-requires
 verdict-requires c κs =
     let counted = c.before.before in
     let t = the-table counted in
-    (_, table_body t _ (counted.whole.ensures _ t.has).1)
+    (_, table_body t _ (counted.whole-rule.ensures _ t.has).1)
 
-sub-occurring : tie.Need-overflow-sub-occurring
+sub-occurring : tie.Need-slice_bounds-occurring-count
 sub-occurring c = (starts_inside (the-table c.before.before.before)).1
 
-part-occurring-start : tie.Need-slice-bounds-occurring-start
+part-occurring-start : tie.Need-slice_bounds-occurring-start
 part-occurring-start c = (starts_inside (the-table c.before.before.before)).1
 
-part-occurring-end : tie.Need-slice-bounds-occurring-end
+part-occurring-end : tie.Need-slice_bounds-occurring-end
 part-occurring-end c = search rules
 
-occurring-requires : tie.Need-occurring-requires
+occurring-requires : tie.Need-occurring-settings-requires
 occurring-requires c κs =
     let counted = c.before.before.before.before in
     let t = the-table counted in
-    table_body t _ (counted.whole.ensures _ t.has).1
+    table_body t _ (counted.whole-rule.ensures _ t.has).1
 
-add-t6 : tie.Need-overflow-add-t6
+add-t6 : tie.Need-overflow_add-result
 add-t6 c = omega (arith, few c.before.before.before.before.before.before)
 
-add-t13 : tie.Need-overflow-add-t13
+add-t13 : tie.Need-overflow_add-result-2
 add-t13 c = omega (arith, few c.before.before.before.before.before.before.before)
 
-cast-t14 : tie.Need-overflow-cast-t14
+cast-t14 : tie.Need-overflow_cast-result
 cast-t14 c = omega (arith, few c.before.before.before.before.before.before.before)
 
 returns : tie.Need-returns
 returns c =
-    let found = c.before.before in
-    let judged = found.before.before in
-    let counted = judged.before.before.before in
+    let counted = c.before.before.before.before.before.before.before in
     λ r has.
-    let (nodes, long) = counted.whole.ensures r has in
-    let body = rule_body (table counted r has) counted.whole.result.words long in
-    answer_is r _ _ _ _ (judged.verdict.ensures _ 0 r body) nodes long (found.occurring.ensures 0 r body)
+    let (nodes, long) = counted.whole-rule.ensures r has in
+    let body = rule_body (table counted r has) counted.whole-rule.result.words long in
+    answer_is r _ _ _ _ (c.verdict-verdict.ensures _ 0 r body) nodes long (c.occurring-settings.ensures 0 r body)
 
-pub answered-spec : {M : Type 1} → statement M
-answered-spec =
+pub answered_spec : {M : Type 1} → statement M
+answered_spec =
     tie.close
     (tie.spec
     whole-requires

@@ -23,82 +23,81 @@ abbrev Below : List ℤ → ℕ → ℕ → ℕ → Type 0
 Below bs place set v = (end : ℕ) (t : Test) (s : Sum) (ls : List (Test × Sum)) → LiteralAt bs place end t s ls
     → IsSet set (factors_below v s)
 
-abbrev invariant-loop : tie.invariant-loop
+abbrev invariant-loop : tie.invariant-loop-v
 invariant-loop bodies place sum set₀ v₀ set v = (1 ≤ v) × (v ≤ 7) × Below (words bodies) place set v
 
-abbrev decreases-loop : tie.decreases-loop
+abbrev decreases-loop : tie.decreases-loop-v
 decreases-loop bodies place sum set₀ v₀ set v = 7 - v
 
 -- how many words the body of the literal has
 wide : (c : tie.After-width invariant-loop decreases-loop) {end : ℕ} {t : Test} {s : Sum} {ls : List (Test × Sum)}
-    → LiteralAt (words c.before.before.before.args.bodies.now)
-    c.before.before.before.args.place end t s ls
+    → LiteralAt (words c.args.bodies.now)
+    c.args.place end t s ls
     → c.width.result ≡ before_sum t + 7
 wide c l =
-    let read = c.before.natural in
+    let read = c.natural in
     literal_wide l read.result _ read.ensures.1 c.width.ensures.0
 
 natural-requires : tie.Need-natural-requires invariant-loop decreases-loop
-natural-requires c κs = omega (arith, literal_inside c.before.requires.1.at)
+natural-requires c κs = omega (arith, literal_inside c.requires.1.at)
 
 width-requires : tie.Need-width-requires invariant-loop decreases-loop
 width-requires c κs = search rules
 
-sub-sum : tie.Need-overflow-sub-sum invariant-loop decreases-loop
-sub-sum c = omega (arith, wide c c.before.before.before.requires.1.at)
+sub-sum : tie.Need-overflow_sub-sum invariant-loop decreases-loop
+sub-sum c = omega (arith, wide c c.requires.1.at)
 
-add-sum : tie.Need-overflow-add-sum invariant-loop decreases-loop
+add-sum : tie.Need-overflow_add-sum invariant-loop decreases-loop
 add-sum c =
-    let pre = c.before.before.before.requires.1 in
+    let pre = c.requires.1 in
     omega (arith, wide c pre.at, literal_inside pre.at, pre.few)
 
-loop-holds : tie.Need-loop-init invariant-loop decreases-loop
+loop-holds : tie.Need-loop-v-init invariant-loop decreases-loop
 loop-holds c = (omega arith, omega arith, λ end t s ls l. none_below s)
 
-cast-with-factor : tie.Need-overflow-cast-with-factor invariant-loop decreases-loop
+cast-with-factor : tie.Need-overflow_cast-v invariant-loop decreases-loop
 cast-with-factor c = search rules
 
-add-natural : tie.Need-overflow-add-natural invariant-loop decreases-loop
+add-natural : tie.Need-overflow_add-sum-in-loop-v invariant-loop decreases-loop
 add-natural c =
     let read = c.before.before in
-    let pre = read.before.before.before.requires.1 in
-    omega (arith, wide read pre.at, literal_inside pre.at, pre.few, c.before.loop.invariant.1)
+    let pre = read.requires.1 in
+    omega (arith, wide read pre.at, literal_inside pre.at, pre.few, c.loop-v.invariant.1)
 
-natural-requires-2 : tie.Need-natural-requires-2 invariant-loop decreases-loop
+natural-requires-2 : tie.Need-natural-requires-in-loop-v invariant-loop decreases-loop
 natural-requires-2 c κs =
     let read = c.before.before in
-    let pre = read.before.before.before.requires.1 in
-    omega (arith, wide read pre.at, literal_inside pre.at, c.loop-test.true)
+    let pre = read.requires.1 in
+    omega (arith, wide read pre.at, literal_inside pre.at, c.loop-v-test.true)
 
-with-factor-requires : tie.Need-with-factor-requires invariant-loop decreases-loop
+with-factor-requires : tie.Need-with_factor-set-requires invariant-loop decreases-loop
 with-factor-requires c κs =
-    (c.before.before.loop.invariant.0, omega (arith, c.before.loop-test.true))
+    (c.loop-v.invariant.0, omega (arith, c.loop-v-test.true))
 
-add-v : tie.Need-overflow-add-v invariant-loop decreases-loop
-add-v c = omega (arith, c.before.before.loop-test.true)
+add-v : tie.Need-overflow_add-v invariant-loop decreases-loop
+add-v c = omega (arith, c.loop-v-test.true)
 
-loop-less : tie.Need-loop-smaller invariant-loop decreases-loop
-loop-less c = omega (arith, c.before.before.loop-test.true)
+loop-less : tie.Need-loop-v-smaller invariant-loop decreases-loop
+loop-less c = omega (arith, c.loop-v-test.true)
 
-loop-again : tie.Need-loop-preserved invariant-loop decreases-loop
+loop-again : tie.Need-loop-v-preserved invariant-loop decreases-loop
 loop-again c =
-    let test = c.before.before in
-    let at = test.before in
-    let v = at.loop.v in
-    let below = test.loop-test.true in (
+    let at = c.before.before.before in
+    let v = at.loop-v.v in
+    let below = c.loop-v-test.true in (
       omega arith,
       omega (arith, below),
       λ end t s ls l.
-          one_more _ v c.before.natural2.result s
-          (sym (factor_word l _ (wide at.before l) v (omega (arith, below))) ∙ c.before.natural2.ensures.1)
-          (c.with-factor.ensures (factors_below v s) (at.loop.invariant.2 end t s ls l)),
+          one_more _ v c.natural-in-loop-v.result s
+          (sym (factor_word l _ (wide at.before l) v (omega (arith, below))) ∙ c.natural-in-loop-v.ensures.1)
+          (c.with_factor-set.ensures (factors_below v s) (at.loop-v.invariant.2 end t s ls l)),
     )
 
 returns : tie.Need-returns invariant-loop decreases-loop
-returns c = λ end t s ls l. all_below _ _ s c.loop-test.false (c.before.loop.invariant.2 end t s ls l)
+returns c = λ end t s ls l. all_below _ _ s c.loop-v-test.false (c.loop-v.invariant.2 end t s ls l)
 
-pub factors-spec : {M : Type 1} → statement M
-factors-spec =
+pub factors_spec : {M : Type 1} → statement M
+factors_spec =
     tie.close
     (tie.spec
     invariant-loop

@@ -10,51 +10,48 @@ use Rattle.leaveoff.proofs.OccurringLaws.{Occurring, none_occur, more_occur, set
 use Rattle.leaveoff.proofs.result.occurring.Statement.{statement}
 use Rattle.leaveoff.proofs.result.occurring.Tie as tie
 
-abbrev invariant-loop : tie.invariant-loop
+abbrev invariant-loop : tie.invariant-loop-place
 invariant-loop bodies end set₀ place₀ set place = Scanned (words bodies) place end (Occurring set)
 
-abbrev decreases-loop : tie.decreases-loop
+abbrev decreases-loop : tie.decreases-loop-place
 decreases-loop bodies end set₀ place₀ set place = end - place
 
 -- the literal that the loop is at
-here : (c : tie.In-loop invariant-loop decreases-loop)
-    → SomeLiteral (words c.before.before.before.before.args.bodies.now) c.before.loop.place
-    c.before.before.before.before.args.end
-here c = scan_here c.before.loop.invariant c.loop-test.true c.before.before.before.before.requires
+here : (c : tie.In-loop-place invariant-loop decreases-loop)
+    → SomeLiteral (words c.args.bodies.now) c.loop-place.place
+    c.args.end
+here c = scan_here c.loop-place.invariant c.loop-place-test.true c.requires
 
-first-requires : tie.Need-first-requires invariant-loop decreases-loop
-first-requires c κs = c.before.requires
+first-requires : tie.Need-first-place-requires invariant-loop decreases-loop
+first-requires c κs = c.requires
 
-loop-holds : tie.Need-loop-init invariant-loop decreases-loop
-loop-holds c = scan_start _ none_occur c.first.ensures
+loop-holds : tie.Need-loop-place-init invariant-loop decreases-loop
+loop-holds c = scan_start _ none_occur c.first-place.ensures
 
 factors-requires : tie.Need-factors-requires invariant-loop decreases-loop
 factors-requires c κs = (_, here c)
 
-join-requires : tie.Need-join-requires invariant-loop decreases-loop
+join-requires : tie.Need-join-set-requires invariant-loop decreases-loop
 join-requires c κs = search rules
 
-following-requires : tie.Need-following-requires invariant-loop decreases-loop
+following-requires : tie.Need-following-place-requires invariant-loop decreases-loop
 following-requires c κs = here c.before.before
 
-loop-less : tie.Need-loop-smaller invariant-loop decreases-loop
-loop-less c = omega (arith, c.following.ensures.0, c.before.before.before.loop-test.true)
+loop-less : tie.Need-loop-place-smaller invariant-loop decreases-loop
+loop-less c = omega (arith, c.following-place.ensures.0, c.loop-place-test.true)
 
-loop-again : tie.Need-loop-preserved invariant-loop decreases-loop
+loop-again : tie.Need-loop-place-preserved invariant-loop decreases-loop
 loop-again c =
-    let joined = c.before in
-    let found = joined.before in
-    let test = found.before in
-    scan_step test.before.loop.invariant test.loop-test.true (Occurring _) c.following.ensures.1
+    scan_step c.loop-place.invariant c.loop-place-test.true (Occurring _) c.following-place.ensures.1
     (λ t s ls ks l q.
-    more_occur _ t s ks (joined.join.ensures _ _ q (found.factors.ensures _ t s ls l)))
+    more_occur _ t s ks (c.join-set.ensures _ _ q (c.factors.ensures _ t s ls l)))
 
 returns : tie.Need-returns invariant-loop decreases-loop
 returns c =
-    λ n a b. settings_found _ a (scan_over c.before.loop.invariant (omega (arith, c.loop-test.false)) n a b)
+    λ n a b. settings_found _ a (scan_over c.loop-place.invariant (omega (arith, c.loop-place-test.false)) n a b)
 
-pub occurring-spec : {M : Type 1} → statement M
-occurring-spec =
+pub occurring_spec : {M : Type 1} → statement M
+occurring_spec =
     tie.close
     (tie.spec
     invariant-loop

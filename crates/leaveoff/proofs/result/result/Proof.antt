@@ -16,73 +16,66 @@ use Rattle.leaveoff.proofs.ResultBytes.{table_inside, room_inside, in_room, zero
 use Rattle.leaveoff.proofs.result.result.Statement.{statement}
 use Rattle.leaveoff.proofs.result.result.Tie as tie
 
-room-requires : tie.Need-room-requires
+room-requires : tie.Need-room-most-requires
 room-requires c κs = search rules
 
-mul_most : tie.Need-overflow-mul-most
+mul_most : tie.Need-overflow_mul-most
 mul_most c = search rules
 
-slice-reshare-prefix-answered : tie.Need-slice-reshare-prefix-answered
+slice-reshare-prefix-answered : tie.Need-slice_bounds-answered-end
 slice-reshare-prefix-answered c = search rules
 
-slice-aggregate-answered : tie.Need-slice-aggregate-answered
+slice-aggregate-answered : tie.Need-slice_bounds-answered-end-2
 slice-aggregate-answered c =
-    let start = c.before.before.before in
-    sym (length-take-le _ _ (room_inside _ _ start.requires.held c.before.room.result c.before.room.ensures))
+    sym (length-take-le _ _ (room_inside _ _ c.requires.held c.room-most.result c.room-most.ensures))
 
-answered-requires : tie.Need-answered-requires
+answered-requires : tie.Need-answered-answer-requires
 answered-requires c κs =
-    let start = c.before.before.before in
-    record { rule = _; has = in_room _ _ start.requires.held c.before.room.result c.before.room.ensures }
+    record { rule = _; has = in_room _ _ c.requires.held c.room-most.result c.room-most.ensures }
 
 -- what is answered of a rule whose table this is
-told : (c : tie.After-answered) (r : Rule)
-    → let start = c.before.before.before.before in
-    Held (words start.args.out.now) r → answer_of c.answered.result ≡ table_answer (given r)
+told : (c : tie.After-answered-answer) (r : Rule)
+    → Held (words c.args.out.now) r → answer_of c.answered-answer.result ≡ table_answer (given r)
 told c r held =
-    let room = c.before.before in
-    c.answered.ensures r (in_room _ _ held room.room.result room.room.ensures)
+    c.answered-answer.ensures r (in_room _ _ held c.room-most.result c.room-most.ensures)
 
 -- the table is there
-there : (c : tie.After-answered)
-    → let start = c.before.before.before.before in c.answered.result.words * 4 ≤ length start.args.out.now
+there : (c : tie.After-answered-answer)
+    → c.answered-answer.result.words * 4 ≤ length c.args.out.now
 there c =
-    let start = c.before.before.before.before in
-    let rule = start.requires.rule in
-    table_inside _ _ start.requires.held _ (answer_words rule (told c rule start.requires.held))
+    let rule = c.requires.rule in
+    table_inside _ _ c.requires.held _ (answer_words rule (told c rule c.requires.held))
 
-cast-end : tie.Need-overflow-cast-end
+cast-end : tie.Need-overflow_cast-end
 cast-end c = search rules
 
-mul-end : tie.Need-overflow-mul-end
+mul-end : tie.Need-overflow_mul-end
 mul-end c = search rules
 
-sub-zero : tie.Need-overflow-sub-zero
+sub-zero : tie.Need-slice_bounds-zero-count
 sub-zero c = there c.before
 
-part-zero-start : tie.Need-slice-bounds-zero-start
+part-zero-start : tie.Need-slice_bounds-zero-start
 part-zero-start c = there c.before
 
-part-zero-end : tie.Need-slice-bounds-zero-end
+part-zero-end : tie.Need-slice_bounds-zero-end
 part-zero-end c = search rules
 
 zero-requires : tie.Need-zero-requires
 zero-requires c κs = search rules
 
-same_length : tie.Need-same-length
+same_length : tie.Need-shape_of-out
 same_length c = search rules
 
 returns : tie.Need-returns
 returns c =
-    let zeros = c.before.before in
     let answer = c.before.before.before.before.before in
-    let known = answer.before.before.before in
     λ r held.
     let e = told answer r held in
-    (e, zeros_after _ r held (λ k. (known.slice-known.given k).fits) _ (answer_words r e) _ zeros.zero.ensures)
+    (e, zeros_after _ r held (λ k. (c.slice_known-1.given k).fits) _ (answer_words r e) _ c.zero.ensures)
 
-pub result-spec : {M : Type 1} → statement M
-result-spec =
+pub result_spec : {M : Type 1} → statement M
+result_spec =
     tie.close
     (tie.spec
     room-requires

@@ -9,43 +9,43 @@ use Rattle.leaveoff.proofs.result.whole.Statement.{statement}
 use Rattle.leaveoff.proofs.result.whole.Tie as tie
 
 -- a rule whose table this is, once the count is read
-table : (c : tie.After-natural) (r : Rule) → HasTable (words c.before.before.args.table.now) r
-    → ReadTable c.before.before.args.table.now c.natural.result r
-table c r has = read_table has c.natural.ensures.1
+table : (c : tie.After-natural-n) (r : Rule) → HasTable (words c.args.table.now) r
+    → ReadTable c.args.table.now c.natural-n.result r
+table c r has = read_table has c.natural-n.ensures.1
 
 -- the one that is asked for
-the-table : (c : tie.After-natural)
-    → ReadTable c.before.before.args.table.now c.natural.result c.before.before.requires.rule
-the-table c = let start = c.before.before in table c start.requires.rule start.requires.has
+the-table : (c : tie.After-natural-n)
+    → ReadTable c.args.table.now c.natural-n.result c.requires.rule
+the-table c = table c c.requires.rule c.requires.has
 
-natural-requires : tie.Need-natural-requires
-natural-requires c κs = word_there c.before.requires.has
+natural-requires : tie.Need-natural-n-requires
+natural-requires c κs = word_there c.requires.has
 
-add-from : tie.Need-overflow-add-from
+add-from : tie.Need-overflow_add-from
 add-from c = search rules
 
-mul-from : tie.Need-overflow-mul-from
+mul-from : tie.Need-overflow_mul-from
 mul-from c = search rules
 
-sub-span : tie.Need-overflow-sub-span
+sub-span : tie.Need-slice_bounds-span-count
 sub-span c = (starts_inside (the-table c)).0
 
-part-span-start : tie.Need-slice-bounds-span-start
+part-span-start : tie.Need-slice_bounds-span-start
 part-span-start c = (starts_inside (the-table c)).0
 
-part-span-end : tie.Need-slice-bounds-span-end
+part-span-end : tie.Need-slice_bounds-span-end
 part-span-end c = search rules
 
-sub-span-2 : tie.Need-overflow-sub-span-2
+sub-span-2 : tie.Need-slice_bounds-span-count-2
 sub-span-2 c = (starts_inside (the-table c.before)).1
 
-part-span-start-2 : tie.Need-slice-bounds-span-start-2
+part-span-start-2 : tie.Need-slice_bounds-span-start-2
 part-span-start-2 c = (starts_inside (the-table c.before)).1
 
-part-span-end-2 : tie.Need-slice-bounds-span-end-2
+part-span-end-2 : tie.Need-slice_bounds-span-end-2
 part-span-end-2 c = search rules
 
-add-span : tie.Need-overflow-add-span
+add-span : tie.Need-overflow_add-n
 add-span c = search rules
 
 span-requires : tie.Need-span-requires
@@ -56,8 +56,8 @@ span-requires c κs =
 returns : tie.Need-returns
 returns c = λ r has. c.span.ensures r (rule_stands (table c.before.before.before r has)) has.formed
 
-pub whole-spec : {M : Type 1} → statement M
-whole-spec =
+pub whole_spec : {M : Type 1} → statement M
+whole_spec =
     tie.close
     (tie.spec
     natural-requires
