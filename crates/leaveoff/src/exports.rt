@@ -1,4 +1,4 @@
-// The calls as a C program or a Rust service links them: each answer packed into 64 bits.
+// The calls as the crate `leaveoff_c` exports them to C: each answer packed into 64 bits.
 ghost use Rattle.std.specs.Prelude.{◌≡◌, [], ◌∷◌, length};
 ghost use Rattle.rules.specs.Calls.{eliminated, left_off, matched};
 ghost use Rattle.leaveoff.specs.Outcome.{Leaves, Eliminates, TestsLine, SaysWhether};
@@ -7,8 +7,7 @@ ghost use Rattle.leaveoff.specs.Outcome.{packed, unpacked};
 use crate::{answer, eliminate, leave_off, matching};
 
 // Elimination, on any bytes and any lent buffers.
-#[unsafe(no_mangle)]
-pub extern "C" fn leaveoff_eliminate(table: &[u8], out: &mut [u8], work: &mut [u8]) -> u64
+pub fn leaveoff_eliminate(table: &[u8], out: &mut [u8], work: &mut [u8]) -> u64
     ensures leaves { Leaves (eliminated table.now (length out.old) (length work.old))
         result out.new work.new }
     ensures eliminates { Eliminates table.now out.new (unpacked result) }
@@ -17,8 +16,7 @@ pub extern "C" fn leaveoff_eliminate(table: &[u8], out: &mut [u8], work: &mut [u
 }
 
 // The leave-off test, on any bytes, any setting and any lent buffers.
-#[unsafe(no_mangle)]
-pub extern "C" fn leaveoff_test(table: &[u8], setting: i32, out: &mut [u8], work: &mut [u8]) -> u64
+pub fn leaveoff_test(table: &[u8], setting: i32, out: &mut [u8], work: &mut [u8]) -> u64
     ensures leaves { Leaves
         (left_off table.now setting (length out.old) (length work.old))
         result out.new work.new }
@@ -28,8 +26,7 @@ pub extern "C" fn leaveoff_test(table: &[u8], setting: i32, out: &mut [u8], work
 }
 
 // Matching, on any bytes and any six values.
-#[unsafe(no_mangle)]
-pub extern "C" fn leaveoff_match(
+pub fn leaveoff_match(
     table: &[u8],
     s1: i32,
     s2: i32,

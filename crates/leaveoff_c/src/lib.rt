@@ -1,0 +1,47 @@
+// The calls as a C program or a Rust service links them: the exports of `leaveoff`, under the names of the archive.
+#![tactic(auto)]
+
+ghost use Rattle.std.specs.Prelude.{◌≡◌, [], ◌∷◌, length};
+ghost use Rattle.rules.specs.Calls.{eliminated, left_off, matched};
+ghost use Rattle.leaveoff.specs.Outcome.{Leaves, Eliminates, TestsLine, SaysWhether};
+ghost use Rattle.leaveoff.specs.Outcome.{packed, unpacked};
+
+use leaveoff::exports;
+
+// Elimination, on any bytes and any lent buffers.
+#[unsafe(no_mangle)]
+pub extern "C" fn leaveoff_eliminate(table: &[u8], out: &mut [u8], work: &mut [u8]) -> u64
+    ensures leaves { Leaves (eliminated table.now (length out.old) (length work.old))
+        result out.new work.new }
+    ensures eliminates { Eliminates table.now out.new (unpacked result) }
+{
+    exports::leaveoff_eliminate(table, out, work)
+}
+
+// The leave-off test, on any bytes, any setting and any lent buffers.
+#[unsafe(no_mangle)]
+pub extern "C" fn leaveoff_test(table: &[u8], setting: i32, out: &mut [u8], work: &mut [u8]) -> u64
+    ensures leaves { Leaves
+        (left_off table.now setting (length out.old) (length work.old))
+        result out.new work.new }
+    ensures tests_line { TestsLine table.now setting (unpacked result) }
+{
+    exports::leaveoff_test(table, setting, out, work)
+}
+
+// Matching, on any bytes and any six values.
+#[unsafe(no_mangle)]
+pub extern "C" fn leaveoff_match(
+    table: &[u8],
+    s1: i32,
+    s2: i32,
+    s3: i32,
+    s4: i32,
+    s5: i32,
+    s6: i32,
+) -> u64
+    ensures value { result ≡ packed (matched table.now s1 s2 s3 s4 s5 s6) }
+    ensures says_whether { SaysWhether table.now (s1 ∷ s2 ∷ s3 ∷ s4 ∷ s5 ∷ s6 ∷ []) (unpacked result) }
+{
+    exports::leaveoff_match(table, s1, s2, s3, s4, s5, s6)
+}
