@@ -13,24 +13,28 @@ use std::sync::OnceLock;
 use std::thread::sleep;
 use std::time::Duration;
 
-const ROOT: &str = concat!(env!("CARGO_MANIFEST_DIR"), "/..");
-const PROGRAM: &str = concat!(env!("CARGO_MANIFEST_DIR"), "/../target/bin/eliminate");
+const CRATE: &str = concat!(env!("CARGO_MANIFEST_DIR"), "/../crates/eliminate");
+const PROGRAM: &str = concat!(
+    env!("CARGO_MANIFEST_DIR"),
+    "/../crates/eliminate/out/eliminate"
+);
 const MOST_BYTES: usize = 65_536;
 
 const FIRST_EXAMPLE: &[u8] = include_bytes!("../../crates/eliminate/stdin");
 const ELIMINATION: &str = include_str!("vectors/elim.txt");
 
-/// The built program. `rt check` proves and builds it where a source has changed since it last did.
+/// The built program. `rt run` proves and builds it where a source has changed since it last did.
 fn program() -> &'static Path {
     static BUILT: OnceLock<()> = OnceLock::new();
     BUILT.get_or_init(|| {
         let run = Command::new("rt")
-            .args(["check", "eliminate"])
-            .current_dir(ROOT)
+            .arg("run")
+            .stdin(Stdio::null())
+            .current_dir(CRATE)
             .output()
             .expect("`rt`, Rattle's toolchain, on the PATH");
-        let said = String::from_utf8_lossy(&run.stdout);
-        assert!(run.status.success(), "`rt check eliminate` failed\n{said}");
+        let said = String::from_utf8_lossy(&run.stderr);
+        assert!(run.status.success(), "`rt run` failed in {CRATE}\n{said}");
     });
     Path::new(PROGRAM)
 }
