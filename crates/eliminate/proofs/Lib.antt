@@ -1,2 +1,3 @@
+pub mod InputLaws
 pub mod LeftLaws
 pub mod PrintedLaws

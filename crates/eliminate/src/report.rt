@@ -3,7 +3,7 @@ ghost use Rattle.std.specs.Prelude.{◌≤◌, length};
 ghost use Rattle.rules.specs.Rule.{Rule};
 ghost use Rattle.rules.specs.Result.{Result};
 ghost use Rattle.rules.specs.Calls.{words as words_of};
-ghost use Rattle.io.specs.Counts.{IsPrefixLen};
+ghost use Rattle.eliminate.specs.Counts.{IsPrefixLen};
 ghost use Rattle.leaveoff.specs.Outcome.{answer_of};
 ghost use Rattle.text.specs.Placed.{Placed};
 ghost use Rattle.eliminate.specs.Printed.{printed, printed_of, LeftBy, SomeLeft};

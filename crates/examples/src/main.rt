@@ -2,10 +2,10 @@
 #![tactic(auto)]
 
 ghost use Rattle.std.specs.Prelude.{◌<◌, ◌≤◌, length};
-ghost use Rattle.io.specs.Counts.{IsPrefixLen};
+ghost use Rattle.examples.specs.Counts.{IsPrefixLen};
 
 use leaveoff::eliminate;
-use libc::STDOUT_FILENO;
+use std::io;
 use tables::words;
 
 fn least(a: usize, b: usize) -> usize
@@ -68,32 +68,31 @@ fn disjuncts(table: &[u8]) -> u64 {
     count
 }
 
-// A number behind a space.
-fn number(n: u64) {
-    io::write_all(STDOUT_FILENO, b" ");
-    io::print_decimal(STDOUT_FILENO, n);
-}
-
 // A line: the example's words in the paper, then number, verdict, words and settings.
-fn example(name: &[u8], table: &[u8], out: &mut [u8], work: &mut [u8]) {
+fn example(
+    rt: &impl Print,
+    name: &str,
+    table: &[u8],
+    out: &mut [u8],
+    work: &mut [u8],
+) -> io::Result<()> {
     let answer = eliminate::eliminate(table, out, work);
-    io::write_all(STDOUT_FILENO, name);
-    number(answer.number as u64);
-    number(answer.verdict as u64);
-    number(answer.words as u64);
-    number(answer.settings as u64);
-    io::write_all(STDOUT_FILENO, b"\n");
+    let number = answer.number;
+    let verdict = answer.verdict;
+    let words = answer.words;
+    let settings = answer.settings;
+    println!(rt; "{name} {number} {verdict} {words} {settings}")
 }
 
-fn one_divisor(out: &mut [u8], work: &mut [u8]) {
+fn one_divisor(rt: &impl Print, out: &mut [u8], work: &mut [u8]) -> io::Result<()> {
     let mut table = [0u8; 256];
     let at = store(&mut table, 0, &[2, 3, 5]);
     let at = store(&mut table, at, &[8, 1]);
     let at = store(&mut table, at, &[6, 4096, 0, 1, 0, 0, 0, 0, 0]);
-    example(b"4096 divides x:", &table[..at], out, work);
+    example(rt, "4096 divides x:", &table[..at], out, work)
 }
 
-fn three_literals(out: &mut [u8], work: &mut [u8]) {
+fn three_literals(rt: &impl Print, out: &mut [u8], work: &mut [u8]) -> io::Result<()> {
     let mut table = [0u8; 256];
     let at = store(&mut table, 0, &[6, 7, 9, 11, 13, 21, 29]);
     let at = store(&mut table, at, &[8, 1]);
@@ -103,14 +102,15 @@ fn three_literals(out: &mut [u8], work: &mut [u8]) {
     let at = store(&mut table, at, &[5, 6, -2, 0, 1, 0, 0, 0]);
     let at = store(&mut table, at, &[6, 4, 1, 5, 0, 0, 0, 0, 0]);
     example(
-        b"0 < 3x+1-y, 0 < z+6-2x, 4 divides 5x+1:",
+        rt,
+        "0 < 3x+1-y, 0 < z+6-2x, 4 divides 5x+1:",
         &table[..at],
         out,
         work,
-    );
+    )
 }
 
-fn foreign_divisor(out: &mut [u8], work: &mut [u8]) {
+fn foreign_divisor(rt: &impl Print, out: &mut [u8], work: &mut [u8]) -> io::Result<()> {
     let mut table = [0u8; 256];
     let at = store(&mut table, 0, &[4, 5, 7, 9, 18]);
     let at = store(&mut table, at, &[8, 1]);
@@ -118,20 +118,20 @@ fn foreign_divisor(out: &mut [u8], work: &mut [u8]) {
     let at = store(&mut table, at, &[6, 4097, 0, 0, 1, 0, 0, 0, 0]);
     let at = store(&mut table, at, &[5, 0, 1, 0, 0, 0, 0, 0]);
     example(
-        b"4097 divides y and 0 < x, for some x:",
+        rt,
+        "4097 divides y and 0 < x, for some x:",
         &table[..at],
         out,
         work,
-    );
+    )
 }
 
-fn main() {
+fn main(rt: HostRuntime) -> io::Result<()> {
     let mut out = [0u8; 65536];
     let mut work = [0u8; 65536];
-    one_divisor(&mut out, &mut work);
-    three_literals(&mut out, &mut work);
-    io::write_all(STDOUT_FILENO, b"its disjuncts:");
-    number(disjuncts(&out));
-    io::write_all(STDOUT_FILENO, b"\n");
-    foreign_divisor(&mut out, &mut work);
+    one_divisor(&rt, &mut out, &mut work)?;
+    three_literals(&rt, &mut out, &mut work)?;
+    let count = disjuncts(&out);
+    println!(rt; "its disjuncts: {count}")?;
+    foreign_divisor(&rt, &mut out, &mut work)
 }

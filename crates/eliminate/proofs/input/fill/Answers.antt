@@ -1,0 +1,10 @@
+use Rattle.std.proofs.Common.{rules}
+use Rattle.eliminate.proofs.InputLaws.{consumed_on}
+use Rattle.eliminate.proofs.input.fill.Goals as goal
+
+pub loop-count-preserved : goal.loop-count-preserved
+loop-count-preserved g c =
+    let before = c.loop-count.invariant in
+    let read = c.in_ok-more.ensures in
+    let more = consumed_on _ _ _ c.loop-count.buffer c.read.new.buf c.loop-count.count c.in_ok-more.more before.1 read.bound.0 before.2 read.bytes.0 in
+    (search rules, search rules, more)
