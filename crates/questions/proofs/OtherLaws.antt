@@ -68,6 +68,9 @@ module _ (v i : ℕ) (setting : T (is_setting (pos v))) (inside : i < 5) where
   pub high_other : v ≤ i + 1 → (i + 2 ≡ get_or (others v all_settings) i 0) × (i + 2 ≤ 6)
   high_other h = (sym (told ∙ ap (λ (b : Bool). cond b (i + 1) (i + 2)) (le-ltb (i + 1) v h)), omega arith)
 
+-- the lower ones and the higher ones, by what the test of the code says
+pub ruleset by_setting = (low_other, high_other)
+
 -- ---- their quantifiers
 
 abbrev pub somes : List ℕ → List Node

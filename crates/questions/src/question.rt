@@ -32,6 +32,7 @@ pub fn size(t: &[u8]) -> usize
 }
 
 // Other setting i: the settings but v in rising order, the lowest of them as number 0.
+#[tactic(auto, using(crate::proofs::OtherLaws::by_setting))]
 fn other(i: usize, v: usize) -> usize
     requires { (i < 5) × T (is_setting (pos v)) }
     ensures { (result ≡ get_or (others v all_settings) i 0) × (result ≤ 6) }

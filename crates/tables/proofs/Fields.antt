@@ -59,8 +59,13 @@ module _ (ws : List ℤ) (i to u : ℕ) (less : i < to) (fits : to ≤ length ws
   unfolding all_within
   opened = ap (all_within limit) (slice-cons i to ws (pos 0) less fits ∙ ap (λ z. z ∷ slice (suc i) to ws) e)
 
-  pub over_limit : u ≡ 2147483648 → all_within limit (slice i to ws) ≡ false
+  over_limit : u ≡ 2147483648 → all_within limit (slice i to ws) ≡ false
   over_limit n = opened ∙ ap (λ (x : ℕ). within limit (signed x) && all_within limit (slice (suc i) to ws)) n
+
+  -- and so the verdict on the words from an earlier place on is no
+  pub over_seen : (from : ℕ) → all_within limit (slice from to ws) ≡ all_within limit (slice i to ws) → u ≡ 2147483648
+      → false ≡ all_within limit (slice from to ws)
+  over_seen from same n = sym (same ∙ over_limit n)
 
   pub in_limit : u < 4294967296 → (u ≡ 2147483648 → ⊥)
       → all_within limit (slice i to ws) ≡ all_within limit (slice (i + 1) to ws)

@@ -30,6 +30,7 @@ pub fn number(r: Reading) -> u32
 }
 
 // Whether the words from place `from` up to place `to` lie within ±2,147,483,647: in 32 bits one number alone does not.
+#[tactic(auto, using(crate::proofs::Fields::over_seen))]
 fn within_limit(b: &[u8], from: usize, to: usize) -> bool
     requires { to ≤ length (words b.now) }
     ensures { result ≡ all_within limit (slice from to (words b.now)) }

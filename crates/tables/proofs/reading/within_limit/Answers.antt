@@ -2,7 +2,7 @@
 -- Assumes nothing.
 use mathlib.Core.Path.{refl, sym, ◌∙◌}
 use native.Mathlib.Omega.{arith}
-use Rattle.tables.proofs.Fields.{over_limit, in_limit, all_seen}
+use Rattle.tables.proofs.Fields.{in_limit, all_seen}
 use Rattle.tables.proofs.reading.within_limit.Goals as goal
 
 pub loop-i-init : goal.loop-i-init
@@ -10,13 +10,6 @@ loop-i-init c = refl
 
 pub natural-requires : goal.natural-requires
 natural-requires c = omega arith
-
-pub returns-then-natural-eq2147483648 : goal.returns-then-natural-eq2147483648
-returns-then-natural-eq2147483648 c =
-    sym
-    (c.loop-i.invariant
-    ∙ over_limit _ _ _ _ c.loop-i-test.true c.requires
-    c.natural.ensures.1 c.if-natural-eq2147483648.true)
 
 pub overflow_add-i : goal.overflow_add-i
 overflow_add-i c = omega arith
@@ -28,7 +21,7 @@ pub loop-i-preserved : goal.loop-i-preserved
 loop-i-preserved c =
     c.loop-i.invariant
     ∙ in_limit _ _ _ _ c.loop-i-test.true c.requires
-    c.natural.ensures.1 c.natural.ensures.0 c.if-natural-eq2147483648.false
+    c.natural.ensures.1 c.natural.ensures.0 (omega (arith, c))
 
 pub returns : goal.returns
 returns c = sym (c.loop-i.invariant ∙ all_seen _ _ _ c.loop-i-test.false)
