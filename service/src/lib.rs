@@ -52,8 +52,8 @@ pub const MOST_BYTES: usize = 4 * MOST_WORDS;
 
 /// The stack on which any call answers any table; Rust's threads have as much by default.
 ///
-/// Elimination needs the most, 1,372,160 bytes for 3,276 ands, the thread's own part included;
-/// matching needs 425,984 for them. `cargo run --release --example stack` measures it. The rest is
+/// Elimination needs the most, 1,110,016 bytes for 3,276 ands, the thread's own part included;
+/// matching needs 372,736 for them. `cargo run --release --example stack` measures it. The rest is
 /// a margin.
 ///
 /// ```

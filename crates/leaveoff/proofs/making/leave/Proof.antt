@@ -18,15 +18,15 @@ leave_spec =
     (λ c. search rules)
     (λ c. search rules)
     (λ c x ended.
-        refused_outcome _ _ (end_refused x _ _ ended (omega arith)) c.refused.ensures c.zero-then-number-ne0.ensures
-        c.zero.ensures)
+    refused_outcome _ _ (end_refused x _ _ ended (omega arith)) c.refused.ensures c.zero-then-number-ne0.ensures
+    c.zero.ensures)
     -- the result of an answered one
     (λ c κs.
-        let (f, e, held) = end_given c.requires.end _ _ c.requires.ended (omega arith) in
-        record { rule = f; held = held })
+    let (f, e, held) = end_given c.requires.end _ _ c.requires.ended (omega arith) in
+    record { rule = f; held = held })
     (λ c. search rules)
     (λ c. search rules)
     (λ c x ended.
-        let (f, e, held) = end_given x _ _ ended (omega arith) in
-        let (answer, bytes) = c.result.ensures f held in
-        given_outcome _ _ e answer bytes c.zero.ensures))
+    let (f, e, held) = end_given x _ _ ended (omega arith) in
+    let (answer, bytes) = c.result.ensures f held in
+    given_outcome _ _ e answer bytes c.zero.ensures))
