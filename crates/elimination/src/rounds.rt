@@ -3,7 +3,7 @@ ghost use Rattle.rules.specs.Rule.{Rule};
 ghost use Rattle.rules.specs.Eliminate.{round as round_of, rounds as rounds_of};
 ghost use Rattle.rules.specs.Calls.{words as words_of};
 ghost use Rattle.elimination.specs.Stepping.{Locates, StepReady, SomeStepReady, SomeStepLocated, Stepped};
-ghost use Rattle.elimination.specs.Stepping.{numbered as Numbered_of};
+ghost use Rattle.elimination.specs.Stepping.{numbered as numbered_of};
 
 use crate::locate::{Located, Quantified};
 use crate::{locate, step};
@@ -12,7 +12,7 @@ use crate::{locate, step};
 fn numbered(table: &mut [u8], work: &mut [u8], room: usize, c: Quantified) -> u32
     requires { SomeStepLocated (words_of table.old) (words_of work.old) room c }
     ensures { (r : Rule) → StepReady (words_of table.old) (words_of work.old) room r
-        → Locates r c → Stepped (Numbered_of room r) result (words_of table.new) }
+        → Locates r c → Stepped (numbered_of room r) result (words_of table.new) }
 {
     let first = step::normal_form(table, work, room, c);
     if first != 0 {

@@ -186,8 +186,8 @@ module _ {ws : List ℤ} {from shift : ℕ} {ts : List ℤ} {i to : ℕ} {d : No
         let here = join c.read two in
         let kind = here.kind in
         let child = pos (u + shift) in
-        let Before_child = front ++ kind ∷ [] in
-        let long : length Before_child ≡ to + 1 = omega (arith, length-append front (kind ∷ []), front_long) in
+        let before_child = front ++ kind ∷ [] in
+        let long : length before_child ≡ to + 1 = omega (arith, length-append front (kind ∷ []), front_long) in
         let moved : u + shift ≡ here.distance + i =
         omega (arith, distance_is c.read two u second, h.shifted) in
         let inside : to + 1 < to + w = omega (arith, two_words c.read two) in
@@ -197,7 +197,7 @@ module _ {ws : List ℤ} {from shift : ℕ} {ts : List ℤ} {i to : ℕ} {d : No
         (ap (take (to + w)) e
         ∙ take-set-lt (to + w) us (to + 1) child inside
         ∙ ap (λ (l : List ℤ). set l (to + 1) child) two_there
-        ∙ set_at Before_child (pos (here.distance + h.number)) [] child (to + 1) long
+        ∙ set_at before_child (pos (here.distance + h.number)) [] child (to + 1) long
         ∙ append_assoc front (kind ∷ []) (child ∷ [])
         ∙ ap (λ (m : ℕ). front ++ kind ∷ pos m ∷ []) moved
         ∙ ap (λ (l : List ℤ). front ++ l) (sym (here.placed i)))

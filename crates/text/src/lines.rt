@@ -3,7 +3,7 @@ ghost use Rattle.std.specs.Prelude.{List, [], ◌∷◌, ◌+◌, ◌*◌, ◌�
 ghost use Rattle.rules.specs.Table.{Node};
 ghost use Rattle.rules.specs.Calls.{signed, words as words_of};
 ghost use Rattle.tables.specs.Checks.{ListedAs, Listed};
-ghost use Rattle.text.specs.Lines.{spaced as spaced_of, line as Line_of, lines as lines_of};
+ghost use Rattle.text.specs.Lines.{spaced as spaced_of, line as line_of, lines as lines_of};
 ghost use Rattle.text.specs.Placed.{Placed};
 
 use crate::{decimal, put};
@@ -21,7 +21,7 @@ fn behind(out: &mut [u8], at: usize, n: u32) -> usize
 // A line of four numbers: at most 44 characters.
 pub fn four(out: &mut [u8], at: usize, first: u32, second: u32, third: u32, fourth: u32) -> usize
     requires { at + 44 ≤ length out.old }
-    ensures { Placed out.old at (Line_of (pos first) (pos second ∷ pos third ∷ pos fourth ∷ []))
+    ensures { Placed out.old at (line_of (pos first) (pos second ∷ pos third ∷ pos fourth ∷ []))
         out.new result × (result ≤ at + 44) }
 {
     let place = decimal::natural(out, at, first);
@@ -43,7 +43,7 @@ fn spaced(out: &mut [u8], at: usize, bits: u32) -> usize
 // A line: a number, and these words.
 fn line(out: &mut [u8], at: usize, first: u32, words: &[u8]) -> usize
     requires { at + 12 * (1 + length (words_of words.now)) ≤ length out.old }
-    ensures { Placed out.old at (Line_of (pos first) (words_of words.now))
+    ensures { Placed out.old at (line_of (pos first) (words_of words.now))
         out.new result × (result ≤ at + 12 * (1 + length (words_of words.now))) }
 {
     let mut place = decimal::natural(out, at, first);
