@@ -1,8 +1,7 @@
 // The paper's examples that are not proved of the definitions: eliminates each, and writes what is answered.
 #![tactic(auto)]
 
-ghost use Rattle.std.specs.Prelude.{◌<◌, ◌≤◌, length};
-ghost use Rattle.examples.specs.Counts.{IsPrefixLen};
+ghost use Rattle.std.specs.Prelude.{◌≡◌, ◌<◌, ◌≤◌, length, take};
 
 use leaveoff::eliminate;
 use std::io;
@@ -20,7 +19,7 @@ fn least(a: usize, b: usize) -> usize
 // Puts words behind the first `at` bytes of a table, as far as there is room; answers how many bytes it then has.
 fn store(table: &mut [u8], at: usize, given: &[i32]) -> usize
     requires { at ≤ length table.old }
-    ensures { IsPrefixLen result table.new }
+    ensures { (result ≤ length table.new) × (result ≡ length (take result table.new)) }
 {
     let place = at / 4;
     let fitting = least(given.len(), words::count(table) - place);

@@ -1,3 +1,5 @@
+-- `store` meets its contract: each word is put where there is room for it.
+-- Assumes nothing.
 use mathlib.Core.Path.{refl}
 use native.Mathlib.Omega.{arith}
 use Rattle.tables.proofs.WordLaws.{words_length}

@@ -1,7 +1,0 @@
--- What the contracts say of a count of bytes that stand at the start of a buffer.
--- Assumes nothing.
-use Rattle.std.specs.Prelude.{◌≡◌, ℕ, ◌≤◌, List, length, take}
-
--- `&xs[..n]` is in bounds and has n bytes
-abbrev pub IsPrefixLen : ℕ → List ℕ → Type 0
-IsPrefixLen n xs = (n ≤ length xs) × (n ≡ length (take n xs))
