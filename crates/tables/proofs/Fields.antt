@@ -10,6 +10,9 @@ use lib.Dec.{ltb, leb}
 use lib.IntN.{ℤ, pos, nat_abs}
 use lib.ListN.{length, get_or, take, drop, length-take, length-drop, drop_of_length-le}
 use lib.Seq.{slice, slice-cons, take-add, length-take-le, drop_at, drop-cons, drop-drop}
+use Rattle.std.specs.Prelude.{is_some, IfSome}
+use Rattle.std.specs.Bool.{then_some}
+use Rattle.std.specs.List.{list_all, range_with_len}
 use Rattle.whole.specs.Integers.{within}
 use Rattle.rules.specs.Sum.{limit, all_within}
 use Rattle.rules.specs.Rule.{divisible}
@@ -40,45 +43,30 @@ tested false a = refl
 same : {A : Type 0} {x y : Result A} {r s : Bool} → x ≡ y → r ≡ s → Passes y s → Passes x r
 same {x} {y} {r} {s} e f h = subst (Passes x) (sym f) (subst (λ z. Passes z s) (sym e) h)
 
+-- a test that gives something
+pub some_if : {A : Type 0} (t : Bool) (x : A) → is_some (then_some t x) ≡ t
+some_if true x = refl
+some_if false x = refl
+
+pub only_if : {A : Type 0} (t : Bool) (x : A) → IfSome (then_some t x) (λ e. e ≡ x)
+only_if true x = refl
+only_if false x = tt
+
 -- ---- words within the limit
 
-inside : (u : ℕ) → u < 4294967296 → (u ≡ 2147483648 → ⊥) → within limit (signed u) ≡ true
-inside u h n = by (ltb u 2147483648) refl
-  where
-    by : (b : Bool) → ltb u 2147483648 ≡ b → within limit (signed u) ≡ true
-    by true e =
-        let low : u < 2147483648 = ltb-true _ _ e in
-        ap (within limit) (signed_low u low) ∙ le-leb u limit (omega arith)
-    by false e =
-        let high : 2147483648 ≤ u = ltb-false _ _ e in
-        ap (within limit) (signed_high u high) ∙ le-leb (suc (4294967295 - u)) limit (omega arith)
-
--- the word at place i has the bits u
-module _ (ws : List ℤ) (i to u : ℕ) (less : i < to) (fits : to ≤ length ws) (e : get_or ws i (pos 0) ≡ signed u) where
-  opened : all_within limit (slice i to ws) ≡ (within limit (signed u) && all_within limit (slice (suc i) to ws))
-  unfolding all_within
-  opened = ap (all_within limit) (slice-cons i to ws (pos 0) less fits ∙ ap (λ z. z ∷ slice (suc i) to ws) e)
-
-  over_limit : u ≡ 2147483648 → all_within limit (slice i to ws) ≡ false
-  over_limit n = opened ∙ ap (λ (x : ℕ). within limit (signed x) && all_within limit (slice (suc i) to ws)) n
-
-  -- and so the verdict on the words from an earlier place on is no
-  pub over_seen : (from : ℕ) → all_within limit (slice from to ws) ≡ all_within limit (slice i to ws) → u ≡ 2147483648
-      → false ≡ all_within limit (slice from to ws)
-  over_seen from same n = sym (same ∙ over_limit n)
-
-  pub in_limit : u < 4294967296 → (u ≡ 2147483648 → ⊥)
-      → all_within limit (slice i to ws) ≡ all_within limit (slice (i + 1) to ws)
-  in_limit h n =
-      let next : suc i ≡ i + 1 = omega arith in
-      opened ∙ ap (λ b. b && all_within limit (slice (suc i) to ws)) (inside u h n)
-      ∙ ap (λ (k : ℕ). all_within limit (slice k to ws)) next
-
-pub all_seen : (ws : List ℤ) (i to : ℕ) → to ≤ i → all_within limit (slice i to ws) ≡ true
+-- the test of each word from one place up to another, which is n words on
+pub all_seen : (W : List ℤ) (from to n : ℕ) → n ≡ to - from → to ≤ length W
+    → list_all (λ (i : ℕ). within limit (get_or W i (pos 0))) (range_with_len from n) ≡ all_within limit (slice from to W)
 unfolding all_within
-all_seen ws i to h =
-    let short : length (take to ws) ≤ i = omega (arith, length-take to ws) in
-    ap (all_within limit) (drop_of_length-le (take to ws) short)
+all_seen W from to zero e h =
+    let short : length (take to W) ≤ from = omega (arith, length-take to W) in
+    sym (ap (all_within limit) (drop_of_length-le (take to W) short))
+all_seen W from to (suc n) e h =
+    let less : from < to = omega arith in
+    let next : from + 1 ≡ suc from = omega arith in
+    ap (λ (t : Bool). within limit (get_or W from (pos 0)) && t) (all_seen W (from + 1) to n (omega arith) h)
+    ∙ ap (λ (k : ℕ). within limit (get_or W from (pos 0)) && all_within limit (slice k to W)) next
+    ∙ sym (ap (all_within limit) (slice-cons from to W (pos 0) less h))
 
 -- ---- so many words, and a sum
 
@@ -132,20 +120,14 @@ module _ (ws : List ℤ) (m n : ℕ) (as_many : n ≡ length ws) where
             ap (up_to m) (signed_high u high)
             ∙ sym (ap₂ ◌&&◌ (le-leb 1 u (omega arith)) (lt-leb u m (omega arith)))
 
-    numbered : (r : Bool) → r ≡ (leb 1 u && leb u m) → NumberAt ws m r
+    pub in_range : (r : Bool) → r ≡ (leb 1 u && leb u m) → NumberAt ws m r
     unfolding NumberAt
-    numbered r f =
+    in_range r f =
         let long : 1 < length ws = omega arith in
         same
         (ap (checked (up_to m)) (drop-cons ws 1 (pos 0) long ∙ ap (λ z. z ∷ drop 2 ws) e))
         (f ∙ sym ranged)
         (tested (up_to m (signed u)) (nat_abs (signed u), drop 2 ws))
-
-    pub under_range : u < 1 → NumberAt ws m false
-    under_range h = numbered false (sym (ap (λ b. b && leb u m) (lt-leb 1 u h)))
-
-    pub in_range : 1 ≤ u → NumberAt ws m (leb u m)
-    in_range h = numbered (leb u m) (sym (ap (λ b. b && leb u m) (le-leb 1 u h)))
 
 pub a_setting : (ws : List ℤ) (r : Bool) → NumberAt ws 6 r → Passes (checked is_setting (drop 1 ws)) r
 unfolding NumberAt is_setting

@@ -39,12 +39,12 @@ pub data Shape (es bs : List ℤ) (n p k : ℕ) : Rule → Type 0 where
 
 module _ {es bs : List ℤ} {n p : ℕ} where
   -- a quantifier has its setting in word 1
-  setting_word : (q : Quantifier) (v : ℕ) (a : Rule) → Stands es bs n p (Bind q v a) → get_or bs 1 (pos 0) ≡ pos v
+  pub setting_word : (q : Quantifier) (v : ℕ) (a : Rule) → Stands es bs n p (Bind q v a) → get_or bs 1 (pos 0) ≡ pos v
   unfolding nodes words body
   setting_word for_some v a s = body_word (bind_node for_some v) (nodes a) 1 s (omega arith)
   setting_word for_all v a s = body_word (bind_node for_all v) (nodes a) 1 s (omega arith)
 
-  body_at : (t : Test) (s : Sum) → Stands es bs n p (Literal t s) → BodyAt bs n t s
+  pub body_at : (t : Test) (s : Sum) → Stands es bs n p (Literal t s) → BodyAt bs n t s
   unfolding nodes bodies
   body_at t s m = record {
     after = bodies (n + 1) [] ++ m.bodies_after;

@@ -21,19 +21,25 @@ use Rattle.rules.proofs.Meaning.{none_quantified, some_quantified}
 use Rattle.tables.specs.Reads.{kind_of}
 use Rattle.tables.specs.Standing.{Nodes, TableAt}
 use Rattle.tables.specs.Last.{binds, chosen_number, chosen_place, LastAt}
-use Rattle.tables.specs.declared.quantifiers.Found.{Found}
-use Rattle.tables.specs.declared.quantifiers.Found.TheVariants.{Nothing, At}
+use Rattle.std.proofs.Common.{Option, Some, None}
+use Rattle.tables.specs.declared.quantifiers.Spot.{Spot}
+use Rattle.tables.specs.Kinds.{Kinded}
 use Rattle.tables.proofs.WordLaws.{number_of}
+use Rattle.tables.proofs.RootKinds.{node_kind}
 use Rattle.tables.proofs.KindLaws.{first_word}
 use Rattle.tables.proofs.Standings.{entry, enough_entries, enough_bodies, stands_there}
 use Rattle.tables.proofs.Standings.{behind as nodes_behind}
 
+-- there is one: node i, at place p
+abbrev pub spot_at : ℕ → ℕ → Option Spot
+spot_at i p = Some (record { node = i; place = p })
+
 -- node i at place p has kind k, and f is the last quantifier before it
-unfoldable later : ℕ → ℕ → ℕ → Found → Found
-later k i p f = elim (binds k) [ true ↦ At i p | false ↦ f ]
+unfoldable later : ℕ → ℕ → ℕ → Option Spot → Option Spot
+later k i p f = elim (binds k) [ true ↦ spot_at i p | false ↦ f ]
 
 -- the last quantifier of nodes, the first of them node i at place p, where f is the last before them
-unfoldable pub last : ℕ → ℕ → Found → List Node → Found
+unfoldable pub last : ℕ → ℕ → Option Spot → List Node → Option Spot
 unfolding later kind_of words
 last i p f [] = f
 last i p f (d ∷ ds) = last (i + 1) (p + words d) (later (kind_of d) i p f) ds
@@ -41,12 +47,12 @@ last i p f (d ∷ ds) = last (i + 1) (p + words d) (later (kind_of d) i p f) ds
 -- ---- of a rule's nodes it is the chosen one
 
 -- the first where the test passes, else the second
-abbrev found_by : Bool → Found → Found → Found
+abbrev found_by : Bool → Option Spot → Option Spot → Option Spot
 found_by t first second = elim t [ true ↦ first | false ↦ second ]
 
-unfoldable at_chosen : ℕ → ℕ → Found → Rule → Found
+unfoldable at_chosen : ℕ → ℕ → Option Spot → Rule → Option Spot
 unfolding quantified chosen_number chosen_place
-at_chosen i p f r = found_by (quantified r) (At (i + chosen_number r) (p + chosen_place r)) f
+at_chosen i p f r = found_by (quantified r) (spot_at (i + chosen_number r) (p + chosen_place r)) f
 
 some : (n : ℕ) → ltb 0 (suc n) ≡ true
 some n = leb-suc-suc 0 n ∙ leb-zero n
@@ -55,52 +61,52 @@ some_of_two : (m n : ℕ) → ltb 0 (m + n) ≡ (ltb 0 m || ltb 0 n)
 some_of_two zero n = ap (ltb 0) (zero-add n)
 some_of_two (suc m) n = ap (ltb 0) (suc-add m n) ∙ some (m + n) ∙ sym (ap (λ (b : Bool). b || ltb 0 n) (some m))
 
-same_place : {i j p q : ℕ} → i ≡ j → p ≡ q → At i p ≡ At j q
+same_place : {i j p q : ℕ} → i ≡ j → p ≡ q → spot_at i p ≡ spot_at j q
 same_place e g = cc
 
-chosen_in_not : (i p : ℕ) (f : Found) (a : Rule) → at_chosen (i + 1) (p + 1) f a ≡ at_chosen i p f (Not a)
+chosen_in_not : (i p : ℕ) (f : Option Spot) (a : Rule) → at_chosen (i + 1) (p + 1) f a ≡ at_chosen i p f (Not a)
 unfolding at_chosen
 chosen_in_not i p f a =
-    ap (λ (g : Found). found_by (quantified a) g f) (same_place (omega arith) (omega arith))
+    ap (λ (g : Option Spot). found_by (quantified a) g f) (same_place (omega arith) (omega arith))
 
-chosen_in_join : (i p : ℕ) (f : Found) (j : Junction) (a b : Rule)
+chosen_in_join : (i p : ℕ) (f : Option Spot) (j : Junction) (a b : Rule)
     → at_chosen (i + 1 + count a) (p + 2 + weight a) (at_chosen (i + 1) (p + 2) f a) b ≡ at_chosen i p f (Join j a b)
 unfolding at_chosen quantifiers
 chosen_in_join i p f j a b =
     sides (quantified a) (quantified b)
-    ∙ ap (λ (t : Bool). found_by t (At (i + chosen_number (Join j a b)) (p + chosen_place (Join j a b))) f)
+    ∙ ap (λ (t : Bool). found_by t (spot_at (i + chosen_number (Join j a b)) (p + chosen_place (Join j a b))) f)
     (sym (some_of_two (quantifiers a) (quantifiers b)))
   where
     sides : (s t : Bool)
-        → found_by t (At (i + 1 + count a + chosen_number b) (p + 2 + weight a + chosen_place b))
-        (found_by s (At (i + 1 + chosen_number a) (p + 2 + chosen_place a)) f)
+        → found_by t (spot_at (i + 1 + count a + chosen_number b) (p + 2 + weight a + chosen_place b))
+        (found_by s (spot_at (i + 1 + chosen_number a) (p + 2 + chosen_place a)) f)
         ≡ found_by (s || t)
-        (At (i + elim t [ true ↦ 1 + count a + chosen_number b | false ↦ 1 + chosen_number a ])
+        (spot_at (i + elim t [ true ↦ 1 + count a + chosen_number b | false ↦ 1 + chosen_number a ])
         (p + elim t [ true ↦ 2 + weight a + chosen_place b | false ↦ 2 + chosen_place a ])) f
     sides true true = same_place (omega arith) (omega arith)
     sides false true = same_place (omega arith) (omega arith)
     sides true false = same_place (omega arith) (omega arith)
     sides false false = refl
 
-chosen_in_bind : (i p : ℕ) (f : Found) (q : Quantifier) (v : ℕ) (a : Rule)
-    → at_chosen (i + 1) (p + 2) (At i p) a ≡ at_chosen i p f (Bind q v a)
+chosen_in_bind : (i p : ℕ) (f : Option Spot) (q : Quantifier) (v : ℕ) (a : Rule)
+    → at_chosen (i + 1) (p + 2) (spot_at i p) a ≡ at_chosen i p f (Bind q v a)
 unfolding at_chosen quantifiers
 chosen_in_bind i p f q v a =
     inside (quantified a)
-    ∙ ap (λ (t : Bool). found_by t (At (i + chosen_number (Bind q v a)) (p + chosen_place (Bind q v a))) f)
+    ∙ ap (λ (t : Bool). found_by t (spot_at (i + chosen_number (Bind q v a)) (p + chosen_place (Bind q v a))) f)
     (sym (some (quantifiers a)))
   where
     inside : (t : Bool)
-        → found_by t (At (i + 1 + chosen_number a) (p + 2 + chosen_place a)) (At i p)
-        ≡ At (i + elim t [ true ↦ 1 + chosen_number a | false ↦ 0 ])
+        → found_by t (spot_at (i + 1 + chosen_number a) (p + 2 + chosen_place a)) (spot_at i p)
+        ≡ spot_at (i + elim t [ true ↦ 1 + chosen_number a | false ↦ 0 ])
         (p + elim t [ true ↦ 2 + chosen_place a | false ↦ 0 ])
     inside true = same_place (omega arith) (omega arith)
     inside false = same_place (omega arith) (omega arith)
 
-moved : {i j p q : ℕ} {f g : Found} (ds : List Node) → i ≡ j → p ≡ q → f ≡ g → last i p f ds ≡ last j q g ds
+moved : {i j p q : ℕ} {f g : Option Spot} (ds : List Node) → i ≡ j → p ≡ q → f ≡ g → last i p f ds ≡ last j q g ds
 moved ds a b c = cc
 
-last_nodes : (r : Rule) (i p : ℕ) (f : Found) (ds : List Node)
+last_nodes : (r : Rule) (i p : ℕ) (f : Option Spot) (ds : List Node)
     → last i p f (nodes r ++ ds) ≡ last (i + count r) (p + weight r) (at_chosen i p f r) ds
 unfolding last nodes at_chosen quantifiers
 last_nodes (Constant false) i p f ds = refl
@@ -124,23 +130,23 @@ last_nodes (Literal (divisible false k) s) i p f ds = refl
 last_nodes (Literal is_zero s) i p f ds = refl
 last_nodes (Bind q v a) i p f ds =
     bind_passed q
-    ∙ last_nodes a (i + 1) (p + 2) (At i p) ds
+    ∙ last_nodes a (i + 1) (p + 2) (spot_at i p) ds
     ∙ moved ds (omega arith) (omega arith) (chosen_in_bind i p f q v a)
   where
     bind_passed : (q : Quantifier)
-        → last i p f (nodes (Bind q v a) ++ ds) ≡ last (i + 1) (p + 2) (At i p) (nodes a ++ ds)
+        → last i p f (nodes (Bind q v a) ++ ds) ≡ last (i + 1) (p + 2) (spot_at i p) (nodes a ++ ds)
     bind_passed for_some = refl
     bind_passed for_all = refl
 
-last_at : (a : Rule) (f : Found) → f ≡ last 0 (count a + 1) Nothing (nodes a) → LastAt a f
+last_at : (a : Rule) (f : Option Spot) → f ≡ last 0 (count a + 1) None (nodes a) → LastAt a f
 unfolding last at_chosen LastAt
 last_at a f e =
-    let nothing_behind = ap (last 0 (count a + 1) Nothing) (sym (append-nil (nodes a)))
-    ∙ last_nodes a 0 (count a + 1) Nothing [] in
+    let nothing_behind = ap (last 0 (count a + 1) None) (sym (append-nil (nodes a)))
+    ∙ last_nodes a 0 (count a + 1) None [] in
     subst (LastAt a) (sym (e ∙ nothing_behind)) (by_test (quantified a) (some_quantified a) (none_quantified a))
   where
     by_test : (t : Bool) → (T t → 0 < quantifiers a) → (T (not t) → quantifiers a ≡ 0)
-        → LastAt a (found_by t (At (0 + chosen_number a) (count a + 1 + chosen_place a)) Nothing)
+        → LastAt a (found_by t (spot_at (0 + chosen_number a) (count a + 1 + chosen_place a)) None)
     by_test true some none = (some tt, zero-add (chosen_number a), refl)
     by_test false some none = none tt
 
@@ -154,22 +160,22 @@ root_word {n = n} d ds f =
 
 -- ---- whether there is one
 
-module _ (r : Rule) {f : Found} where
-  pub none_last : f ≡ Nothing → LastAt r f → false ≡ quantified r
+module _ (r : Rule) {f : Option Spot} where
+  pub none_last : f ≡ None → LastAt r f → false ≡ quantified r
   unfolding LastAt quantified
   none_last e h = sym (le-ltb 0 (quantifiers r) (omega (arith, subst (LastAt r) e h)))
 
-  pub some_last : {i p : ℕ} → f ≡ At i p → LastAt r f → true ≡ quantified r
+  pub some_last : {s : Spot} → f ≡ Some s → LastAt r f → true ≡ quantified r
   unfolding LastAt quantified
   some_last e h = sym (lt-ltb 0 (quantifiers r) (subst (LastAt r) e h).0)
 
 -- ---- the steps of the search, from the last node to the first
 
-same_later : {i j p q : ℕ} (k : ℕ) (f : Found) → i ≡ j → p ≡ q → later k i p f ≡ later k j q f
+same_later : {i j p q : ℕ} (k : ℕ) (f : Option Spot) → i ≡ j → p ≡ q → later k i p f ≡ later k j q f
 same_later k f e g = cc
 
 -- one more node behind some
-last_behind : (l : List Node) (i p : ℕ) (f : Found) (d : Node)
+last_behind : (l : List Node) (i p : ℕ) (f : Option Spot) (d : Node)
     → last i p f (l ++ d ∷ []) ≡ later (kind_of d) (i + length l) (p + total l) (last i p f l)
 unfolding last total
 last_behind [] i p f d = same_later (kind_of d) f (sym (add-zero i)) (sym (add-zero p))
@@ -195,7 +201,7 @@ pub record Sought (i : ℕ) (r : Rule) : Type 0 where
   pub behind : List Node
   pub all : nodes r ≡ before ++ behind
   pub long : length before ≡ i
-  pub same : last 0 (count r + 1) Nothing (nodes r) ≡ last 0 (count r + 1) Nothing before
+  pub same : last 0 (count r + 1) None (nodes r) ≡ last 0 (count r + 1) None before
 
 pub search_begins : {n : ℕ} {r : Rule} → n ≡ count r → Sought n r
 search_begins {r = r} e = record {
@@ -206,11 +212,11 @@ search_begins {r = r} e = record {
   same = refl;
 }
 
-pub none_found : {r : Rule} → Sought 0 r → LastAt r Nothing
+pub none_found : {r : Rule} → Sought 0 r → LastAt r None
 unfolding last
-none_found {r} s = last_at r Nothing (sym (s.same ∙ go s.before s.long))
+none_found {r} s = last_at r None (sym (s.same ∙ go s.before s.long))
   where
-    go : (l : List Node) → length l ≡ 0 → last 0 (count r + 1) Nothing l ≡ Nothing
+    go : (l : List Node) → length l ≡ 0 → last 0 (count r + 1) None l ≡ None
     go [] e = refl
     go (d ∷ l) e = absurd (omega arith)
 
@@ -254,30 +260,38 @@ module _ {W : List ℤ} {i : ℕ} {r : Rule} (at : TableAt W r) (s : Sought i r)
         (sym read ∙ ap (λ (k : ℕ). get_or W k (pos 0)) (sym (add-zero i)) ∙ sym (get_or-drop i W 0 (pos 0))
         ∙ entry root s.behind stands)
 
-    pub body_inside : p < length W
+    body_inside : p < length W
     unfolding total
     body_inside =
         let some = enough_bodies (root ∷ s.behind) stands in
         omega (arith, some, place_is, words_pos root, length-drop place W)
 
-    module _ (k : ℕ) (first : get_or W p (pos 0) ≡ signed k) where
-      kind_is : k ≡ kind_of root
-      kind_is = number_of k (kind_of root)
-          (sym first ∙ ap (λ (j : ℕ). get_or W j (pos 0)) (place_is ∙ sym (add-zero place))
-          ∙ sym (get_or-drop place W 0 (pos 0)) ∙ root_word root s.behind stands)
+    first_word_is : get_or W p (pos 0) ≡ pos (kind_of root)
+    first_word_is =
+        ap (λ (j : ℕ). get_or W j (pos 0)) (place_is ∙ sym (add-zero place))
+        ∙ sym (get_or-drop place W 0 (pos 0)) ∙ root_word root s.behind stands
 
-      up_to : last 0 (count r + 1) Nothing (nodes r)
-          ≡ later (kind_of root) (length front) place (last 0 (count r + 1) Nothing front)
-      up_to = s.same ∙ ap (last 0 (count r + 1) Nothing) parts.is
-          ∙ last_behind front 0 (count r + 1) Nothing root
-          ∙ same_later (kind_of root) (last 0 (count r + 1) Nothing front) (zero-add _) refl
+    pub body_kinded : Kinded W p
+    body_kinded =
+        let (k, e) = node_kind root in
+        record { there = body_inside; kind = k; numbered = first_word_is ∙ ap pos e }
+
+    module _ (k : ℕ) (first : get_or W p (pos 0) ≡ pos k) where
+      kind_is : k ≡ kind_of root
+      kind_is = let same : pos k ≡ pos (kind_of root) = sym first ∙ first_word_is in cc
+
+      up_to : last 0 (count r + 1) None (nodes r)
+          ≡ later (kind_of root) (length front) place (last 0 (count r + 1) None front)
+      up_to = s.same ∙ ap (last 0 (count r + 1) None) parts.is
+          ∙ last_behind front 0 (count r + 1) None root
+          ∙ same_later (kind_of root) (last 0 (count r + 1) None front) (zero-add _) refl
 
       -- it is a quantifier's
-      pub one_found : (j : ℕ) → j + 1 ≡ i → binds k ≡ true → LastAt r (At j p)
+      pub one_found : (j : ℕ) → j + 1 ≡ i → binds k ≡ true → LastAt r (spot_at j p)
       unfolding later
-      one_found j e bound = last_at r (At j p) (
+      one_found j e bound = last_at r (spot_at j p) (
           same_place (omega (arith, e, number)) place_is
-          ∙ sym (up_to ∙ ap (λ (t : Bool). found_by t (At (length front) place) (last 0 (count r + 1) Nothing front))
+          ∙ sym (up_to ∙ ap (λ (t : Bool). found_by t (spot_at (length front) place) (last 0 (count r + 1) None front))
           (ap binds (sym kind_is) ∙ bound))
           )
 
@@ -289,6 +303,6 @@ module _ {W : List ℤ} {i : ℕ} {r : Rule} (at : TableAt W r) (s : Sought i r)
         behind = root ∷ s.behind;
         all = split;
         long = omega (arith, e, number);
-        same = up_to ∙ ap (λ (t : Bool). found_by t (At (length front) place) (last 0 (count r + 1) Nothing front))
+        same = up_to ∙ ap (λ (t : Bool). found_by t (spot_at (length front) place) (last 0 (count r + 1) None front))
             (ap binds (sym kind_is) ∙ free);
       }

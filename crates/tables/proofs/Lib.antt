@@ -1,3 +1,5 @@
+pub mod RefusalLaws
+pub mod Extents
 pub mod WordLaws
 pub mod SignedBits
 pub mod SettingLaws
@@ -17,3 +19,5 @@ pub mod NodeSteps
 pub mod VerdictLaws
 pub mod Passed
 pub mod LastLaws
+pub mod RootKinds
+pub mod PartSides

@@ -1,15 +1,14 @@
--- What a kind is looked up in: a list, or a number that spells the list in digits of 4 bits.
+-- A list that a number spells in digits of 4 bits.
 -- Assumes nothing.
 use mathlib.Core.Path.{◌≡◌, refl, sym, ◌∙◌, subst}
 use mathlib.Core.Bool.{Bool, true, ◌&&◌}
 use mathlib.Core.List.{List, [], ◌∷◌}
-use Prim.Native.Nat.{ℕ, zero, suc, ◌+◌, ◌*◌, ◌/◌, ◌%◌, ◌^◌, ◌<◌, ◌≤◌}
+use Prim.Native.Nat.{ℕ, zero, suc, ◌*◌, ◌/◌, ◌%◌, ◌^◌, ◌<◌, ◌≤◌}
 use native.Mathlib.Decide.{ℕ_discrete}
 use native.Mathlib.Omega.{arith}
 use lib.Dec.{T, leb, leb→le, eqb, eqb→eq}
-use lib.ListN.{length, get_or, get_or-eq_default}
+use lib.ListN.{length, get_or}
 use Rattle.whole.proofs.Tests.{T_and}
-use Rattle.tables.specs.Reads.{arities}
 
 -- the digit of 4 bits of kind k in a number
 abbrev pub digit : ℕ → ℕ → ℕ
@@ -44,29 +43,3 @@ found n m d l t k h =
     any [] k h = absurd (omega arith)
     any (a ∷ l) zero h = refl
     any (a ∷ l) (suc k) h = any l k (omega arith)
-
-pub missing : (m d : ℕ) (l : List ℕ) → d ≤ m → (k : ℕ) → length l ≤ k → (d ≡ get_or l k d) × (d ≤ m)
-missing m d l e k h = (sym (get_or-eq_default l d h), e)
-
--- what holds of h * 2 and of h * 2 + 1 holds of every kind whose half is h
-pub of_half : (P : ℕ → Type 0) (h k : ℕ) → k / 2 ≡ h → P (h * 2) → P (h * 2 + 1) → P k
-of_half P h k e even odd = by (ℕ_discrete k (h * 2))
-  where
-    by : Dec (k ≡ h * 2) → P k
-    by (yes i) = subst P (sym i) even
-    by (no f) = let i : h * 2 + 1 ≡ k = omega (arith, f) in subst P i odd
-
--- the kinds of and, or, not and the quantifiers alone have children
-pub childless : (k : ℕ) → ¬ (k / 2 ≡ 1) → ¬ (k ≡ 4) → ¬ (k / 2 ≡ 4) → 0 ≡ get_or arities k 0
-childless zero join not bind = refl
-childless (suc zero) join not bind = refl
-childless (suc (suc zero)) join not bind = absurd (join refl)
-childless (suc (suc (suc zero))) join not bind = absurd (join refl)
-childless (suc (suc (suc (suc zero)))) join not bind = absurd (not refl)
-childless (suc (suc (suc (suc (suc zero))))) join not bind = refl
-childless (suc (suc (suc (suc (suc (suc zero)))))) join not bind = refl
-childless (suc (suc (suc (suc (suc (suc (suc zero))))))) join not bind = refl
-childless (suc (suc (suc (suc (suc (suc (suc (suc zero)))))))) join not bind = absurd (bind refl)
-childless (suc (suc (suc (suc (suc (suc (suc (suc (suc zero))))))))) join not bind = absurd (bind refl)
-childless (suc (suc (suc (suc (suc (suc (suc (suc (suc (suc zero)))))))))) join not bind = refl
-childless (suc (suc (suc (suc (suc (suc (suc (suc (suc (suc (suc k))))))))))) join not bind = refl

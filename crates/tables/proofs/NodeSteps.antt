@@ -19,7 +19,10 @@ use Rattle.rules.proofs.Sizes.{length_starts}
 use Rattle.rules.proofs.Decoding.{Written, read_forth}
 use Rattle.tables.specs.Reads.{NodeRead}
 use Rattle.tables.specs.Checks.{rest, ListedAs, Judged}
-use Rattle.tables.specs.declared.check.Checked.TheVariants.{Table, Not}
+use Rattle.std.proofs.Common.{Ok, Err}
+use Rattle.tables.specs.declared.refusal.Refusal.{Refusal}
+use Rattle.tables.specs.declared.refusal.Refusal.TheVariants.{Contents}
+use Rattle.tables.specs.Refusals.{number_of as refusal_number}
 use Rattle.tables.proofs.WordLaws.{number_of, number_is}
 
 -- ---- a result's verdict carried to another's
@@ -125,14 +128,14 @@ pub record NodeDue (W : List ℤ) (n i p : ℕ) : Type 0 where
   pub carries : Carries (rest W n i p) (rest W n 0 (n + 1))
 
 module _ {W : List ℤ} {n i p : ℕ} (node : NodeDue W n i p) where
-  pub all_passed : n ≤ i → p ≡ length W → Judged length (rest W n 0 (n + 1)) (Table n)
+  pub all_passed : n ≤ i → p ≡ length W → Judged length (rest W n 0 (n + 1)) (Ok n)
   unfolding Judged
   all_passed h e =
       let (ds, read) = node.carries.whole [] (at_the_end W n i p h e) in
       (ds, read, sym (were_read W n node.inside read).long)
 
-  pub end_refused : n ≤ i → p ≤ length W → ¬ (p ≡ length W) → Judged length (rest W n 0 (n + 1)) (Not 2)
-  unfolding Judged
+  pub end_refused : n ≤ i → p ≤ length W → ¬ (p ≡ length W) → Judged length (rest W n 0 (n + 1)) (Err Contents)
+  unfolding Judged refusal_number
   end_refused h l f = node.carries.refusal 2 (before_the_end W n i p h (omega arith))
 
 -- its entry is read: r
@@ -142,8 +145,8 @@ pub record EntryRead (W : List ℤ) (n i p r : ℕ) : Type 0 where
   pub entry : get_or W (i + 1) (pos 0) ≡ signed r
 
 pub entry_refused : {W : List ℤ} {n i p r : ℕ} → EntryRead W n i p r → ¬ (r ≡ p)
-    → Judged length (rest W n 0 (n + 1)) (Not 2)
-unfolding Judged
+    → Judged length (rest W n 0 (n + 1)) (Err Contents)
+unfolding Judged refusal_number
 entry_refused {W} {n} {i} {p} {r} read f =
     read.node.carries.refusal 2
     (wrong_entry W n i p read.some read.node.inside (λ k. f (number_of r p (sym read.entry ∙ k))))
@@ -159,12 +162,13 @@ module _ {W : List ℤ} {n i p r : ℕ} {ws : List ℤ} (body : BodyRead W n i p
   entry_is : get_or W (i + 1) (pos 0) ≡ pos p
   entry_is = body.read.entry ∙ number_is r p body.low body.same
 
-  pub body_refused : (k : ℕ) → node i ws ≡ refused k → Judged length (rest W n 0 (n + 1)) (Not k)
+  pub body_refused : (k : Refusal) → node i ws ≡ refused (refusal_number k)
+      → Judged length (rest W n 0 (n + 1)) (Err k)
   unfolding Judged
   body_refused k f =
       let due = body.read.node in
-      due.carries.refusal k
-      (bad_body W n i p body.read.some due.inside k entry_is (ap (node i) (sym body.at) ∙ f))
+      due.carries.refusal (refusal_number k)
+      (bad_body W n i p body.read.some due.inside (refusal_number k) entry_is (ap (node i) (sym body.at) ∙ f))
 
   pub node_passed : {k next : ℕ} → NodeRead ws p i k next → NodeDue W n (i + 1) next
   node_passed d =

@@ -18,8 +18,8 @@ use Rattle.rules.proofs.Decoding.{encode_decode}
 use Rattle.rules.proofs.Bytes.{rule_forth}
 use Rattle.tables.specs.Standing.{Stands, TableAt}
 use Rattle.tables.specs.Checks.{Verdict}
-use Rattle.tables.specs.declared.check.Checked.{Checked}
-use Rattle.tables.specs.declared.check.Checked.TheVariants.{Table}
+use Rattle.std.proofs.Common.{Result as Answer, Ok}
+use Rattle.tables.specs.declared.refusal.Refusal.{Refusal}
 use Rattle.tables.proofs.Standings.{bodies_there, stands_there, inside_entries}
 
 -- the bytes are the table of the rule r, of n nodes
@@ -27,13 +27,13 @@ pub record TableOf (l : List ℕ) (n : ℕ) (r : Rule) : Type 0 where
   pub decodes : rule_of l ≡ given r
   pub counted : n ≡ count r
 
-pub passed : (l : List ℕ) (n : ℕ) {v : Checked} → v ≡ Table n → Verdict (rule_of l) v → (r : Rule) × TableOf l n r
+pub passed : (l : List ℕ) (n : ℕ) {v : Answer ℕ Refusal} → v ≡ Ok n → Verdict (rule_of l) v → (r : Rule) × TableOf l n r
 unfolding Verdict
 passed l n e h =
     let (r, d, c) = subst (Verdict (rule_of l)) e h in
     (r, record { decodes = d; counted = c })
 
-pub verdict_table : {l : List ℕ} {n : ℕ} {r : Rule} → Verdict (rule_of l) (Table n) → rule_of l ≡ given r
+pub verdict_table : {l : List ℕ} {n : ℕ} {r : Rule} → Verdict (rule_of l) (Ok n) → rule_of l ≡ given r
     → TableOf l n r
 unfolding Verdict
 verdict_table (s, decodes, counted) e = record {

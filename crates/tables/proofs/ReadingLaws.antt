@@ -3,7 +3,7 @@
 use mathlib.Core.Path.{◌≡◌, refl, sym, ap, ◌∙◌, subst}
 use mathlib.Core.Bool.{Bool, true, false}
 use mathlib.Core.List.{List, [], ◌∷◌, ◌++◌}
-use Prim.Native.Nat.{ℕ, zero, suc, ◌+◌, ◌<◌, ◌≤◌}
+use Prim.Native.Nat.{ℕ, ◌+◌, ◌<◌, ◌≤◌}
 use native.Mathlib.Omega.{arith}
 use borrow.Author.Tests.{ltb-true, ltb-false, leb-true, leb-false}
 use lib.Dec.{ltb, leb}
@@ -18,25 +18,37 @@ use Rattle.rules.proofs.Refusals.{never}
 use Rattle.rules.proofs.Sizes.{length_body}
 use Rattle.rules.proofs.Decoding.{node_forth}
 use Rattle.tables.specs.declared.reading.Node.{Node as ReadNode}
-use Rattle.tables.specs.declared.reading.Reading.{Reading}
-use Rattle.tables.specs.declared.reading.Reading.TheVariants.{Whole, Refused}
+use Rattle.std.proofs.Common.{Result as Answer, Ok, Err}
+use Rattle.tables.specs.declared.refusal.Refusal.{Refusal}
+use Rattle.tables.specs.declared.refusal.Refusal.TheVariants as refusal
+use Rattle.tables.specs.declared.kind.Kind.{Kind}
+use Rattle.tables.specs.declared.kind.Kind.TheVariants as kind
+use Rattle.tables.specs.Kinds.{number_of}
+use Rattle.tables.specs.Refusals.{number_of as refusal_number}
+use Rattle.tables.proofs.RefusalLaws.{refusal_unique}
 use Rattle.tables.specs.Reads.{Passes, SumAt, NumberAt, DividedAt, FieldsAt, NodeRead, NodeAt}
-use Rattle.tables.specs.Reads.{widths, forms, kind_of}
-use Rattle.tables.proofs.WordLaws.{signed_low, signed_high}
+use Rattle.tables.specs.Reads.{widths, kind_of}
+use Rattle.tables.proofs.WordLaws.{signed_low, signed_high, number_is}
 use Rattle.tables.proofs.Standings.{width_is}
 use Rattle.tables.proofs.Fields.{turned, a_setting}
 use Rattle.tables.proofs.KindLaws.{kind_read, kind_width}
+use Rattle.tables.proofs.RootKinds.{same_kind, beyond, small}
 
 -- ---- what stands behind a kind
 
--- the fields of a form are there, or not
-abbrev pub OfForm : List ℤ → Bool → ℕ → Type 0
-OfForm ws r zero = r ≡ true
-OfForm ws r (suc zero) = r ≡ leb 2 (length ws)
-OfForm ws r (suc (suc zero)) = SumAt ws 1 r
-OfForm ws r (suc (suc (suc zero))) = DividedAt ws r
-OfForm ws r (suc (suc (suc (suc zero)))) = NumberAt ws 6 r
-OfForm ws r (suc (suc (suc (suc (suc n))))) = r ≡ false
+-- the fields of a kind are there, or not
+abbrev pub FieldsFor : List ℤ → Bool → Kind → Type 0
+FieldsFor ws r kind.False = r ≡ true
+FieldsFor ws r kind.True = r ≡ true
+FieldsFor ws r kind.And = r ≡ leb 2 (length ws)
+FieldsFor ws r kind.Or = r ≡ leb 2 (length ws)
+FieldsFor ws r kind.Not = r ≡ true
+FieldsFor ws r kind.Positive = SumAt ws 1 r
+FieldsFor ws r kind.Divisible = DividedAt ws r
+FieldsFor ws r kind.Indivisible = DividedAt ws r
+FieldsFor ws r kind.ForSome = NumberAt ws 6 r
+FieldsFor ws r kind.ForAll = NumberAt ws 6 r
+FieldsFor ws r kind.Zero = SumAt ws 1 r
 
 a_word : (ws : List ℤ) (r : Bool) → r ≡ leb 2 (length ws) → Passes (word (drop 1 ws)) r
 unfolding Passes word
@@ -55,74 +67,64 @@ module _ (ws : List ℤ) (r : Bool) where
   nothing : (d : Node) → r ≡ true → Passes {A = Node × List ℤ} (given (d, drop 1 ws)) r
   nothing d e = subst (Passes {A = Node × List ℤ} (given (d, drop 1 ws))) (sym e) (there (d, drop 1 ws))
 
-  fields : (k : ℕ) → OfForm ws r (get_or forms k 5) → FieldsAt ws k r
-  unfolding FieldsAt SumAt DividedAt
-  fields zero h i = nothing _ h
-  fields (suc zero) h i = nothing _ h
-  fields (suc (suc zero)) h i = turned _ _ r (a_word ws r h)
-  fields (suc (suc (suc zero))) h i = turned _ _ r (a_word ws r h)
-  fields (suc (suc (suc (suc zero)))) h i = nothing _ h
-  fields (suc (suc (suc (suc (suc zero))))) h i = turned _ _ r h
-  fields (suc (suc (suc (suc (suc (suc zero)))))) h i = h true
-  fields (suc (suc (suc (suc (suc (suc (suc zero))))))) h i = h false
-  fields (suc (suc (suc (suc (suc (suc (suc (suc zero)))))))) h i = turned _ _ r (a_setting ws r h)
-  fields (suc (suc (suc (suc (suc (suc (suc (suc (suc zero))))))))) h i = turned _ _ r (a_setting ws r h)
-  fields (suc (suc (suc (suc (suc (suc (suc (suc (suc (suc zero)))))))))) h i = turned _ _ r h
-  fields (suc (suc (suc (suc (suc (suc (suc (suc (suc (suc (suc k))))))))))) h i =
-      subst (Passes (refused 3)) (sym h) (unfold Passes in refl)
-
-  -- the form f of kind k is n
-  pub of_form : (k f n : ℕ) → f ≡ get_or forms k 5 → f ≡ n → OfForm ws r n → FieldsAt ws k r
-  of_form k f n e g h = fields k (subst (OfForm ws r) (sym g ∙ e) h)
+  pub fields : (k : Kind) → FieldsFor ws r k → FieldsAt ws (number_of k) r
+  unfolding FieldsAt SumAt DividedAt number_of
+  fields kind.False h i = nothing _ h
+  fields kind.True h i = nothing _ h
+  fields kind.And h i = turned _ _ r (a_word ws r h)
+  fields kind.Or h i = turned _ _ r (a_word ws r h)
+  fields kind.Not h i = nothing _ h
+  fields kind.Positive h i = turned _ _ r h
+  fields kind.Divisible h i = h true
+  fields kind.Indivisible h i = h false
+  fields kind.ForSome h i = turned _ _ r (a_setting ws r h)
+  fields kind.ForAll h i = turned _ _ r (a_setting ws r h)
+  fields kind.Zero h i = turned _ _ r h
 
 -- ---- the node
 
 body_width : (i : ℕ) (d : Node) → length (body i d) ≡ width d
 body_width i d = length_body i d ∙ sym (width_is d)
 
-pub no_node : (ws : List ℤ) (p n : ℕ) → n ≡ length ws → n ≡ 0 → NodeAt ws p (Refused 3)
-unfolding NodeAt
+pub no_node : (ws : List ℤ) (p n : ℕ) → n ≡ length ws → n ≡ 0 → NodeAt ws p (Err refusal.Node)
+unfolding NodeAt refusal_number
 no_node [] p n e h i = refl
 no_node (w ∷ ws) p n e h i = absurd (omega arith)
 
--- there are some words, and word 0 has the bits k
-module _ (ws : List ℤ) (p n k : ℕ) (as_many : n ≡ length ws) (some : n ≡ 0 → ⊥)
-    (e : get_or ws 0 (pos 0) ≡ signed k) where
+-- there are some words, and word 0 has the bits n
+module _ (ws : List ℤ) (p n : ℕ) (some : 0 < length ws) (e : get_or ws 0 (pos 0) ≡ signed n) where
   at_kind : (i : ℕ) (z : ℤ) → get_or ws 0 (pos 0) ≡ z → node i ws ≡ node i (z ∷ drop 1 ws)
-  at_kind i z f =
-      let long : 0 < length ws = omega arith in
-      ap (node i) (drop-cons ws 0 (pos 0) long ∙ ap (λ x. x ∷ drop 1 ws) f)
+  at_kind i z f = ap (node i) (drop-cons ws 0 (pos 0) some ∙ ap (λ x. x ∷ drop 1 ws) f)
 
-  module _ (r : Bool) (h : FieldsAt ws k r) where
-    pub refused_node : r ≡ false → NodeAt ws p (Refused 3)
+  -- the number of no kind
+  pub unknown_node : ((k : Kind) → ¬ (n ≡ number_of k)) → NodeAt ws p (Err refusal.Node)
+  unfolding NodeAt refusal_number
+  unknown_node none i = by (ltb n 2147483648) refl
+    where
+      by : (b : Bool) → ltb n 2147483648 ≡ b → node i ws ≡ refused 3
+      by true t =
+          at_kind i (pos n) (e ∙ signed_low n (ltb-true _ _ t))
+          ∙ ap (λ (g : Field Node). g (drop 1 ws)) (get_or-eq_default (kinds i) (λ vs. refused 3) {n = n} (beyond n none))
+      by false t = at_kind i _ (e ∙ signed_high n (ltb-false _ _ t))
+
+  module _ (k : Kind) (same : n ≡ number_of k) where
+    first : get_or ws 0 (pos 0) ≡ pos (number_of k)
+    first = e ∙ number_is n (number_of k) (small k) same
+
+    pub refused_node : FieldsAt ws (number_of k) false → NodeAt ws p (Err refusal.Node)
+    unfolding NodeAt FieldsAt refusal_number
+    refused_node h i = at_kind i (pos (number_of k)) first ∙ h i
+
+    pub whole_node : FieldsAt ws (number_of k) true → (w : ℕ) → w ≡ get_or widths (number_of k) 0
+        → NodeAt ws p (Ok (record { kind = k }, p + w))
     unfolding NodeAt FieldsAt
-    refused_node f i = by (ltb k 2147483648) refl
-      where
-        by : (b : Bool) → ltb k 2147483648 ≡ b → node i ws ≡ refused 3
-        by true t = at_kind i (pos k) (e ∙ signed_low k (ltb-true _ _ t)) ∙ subst (FieldsAt ws k) f h i
-        by false t = at_kind i _ (e ∙ signed_high k (ltb-false _ _ t))
-
-    -- an unknown kind has no fields
-    known : r ≡ true → k < 11
-    unfolding FieldsAt
-    known f = by (ltb k 11) refl
-      where
-        by : (b : Bool) → ltb k 11 ≡ b → k < 11
-        by true t = ltb-true _ _ t
-        by false t =
-            let none = get_or-eq_default (kinds 0) (λ vs. refused 3) {n = k} (ltb-false _ _ t) in
-            never (sym (ap (λ (g : Field Node). g (drop 1 ws)) none) ∙ (subst (FieldsAt ws k) f h 0).1)
-
-    pub whole_node : r ≡ true → (w : ℕ) → w ≡ get_or widths k 0 → NodeAt ws p (Whole (record { kind = k }) (p + w))
-    unfolding NodeAt FieldsAt
-    whole_node f w g i =
-        let (a, b) = subst (FieldsAt ws k) f h i in
+    whole_node h w g i =
+        let (a, b) = h i in
         let (d, vs) = a in
-        let z : get_or ws 0 (pos 0) ≡ pos k = e ∙ signed_low k (omega (arith, known f)) in
-        let read : node i ws ≡ given a = at_kind i (pos k) z ∙ b in
+        let read : node i ws ≡ given a = at_kind i (pos (number_of k)) first ∙ b in
         let (here, good) = node_forth i ws a read in
         let after : drop (width d) (body i d ++ vs) ≡ vs = drop_at (body i d) vs (width d) (body_width i d) in
-        let kind : k ≡ kind_of d = kind_read i d vs k here e in
+        let kind : number_of k ≡ kind_of d = sym same ∙ kind_read i d vs n here e in
         record {
           it = d;
           reads = read ∙ ap (λ (l : List ℤ). given (d, l)) (sym (ap (drop (width d)) here ∙ after));
@@ -133,13 +135,13 @@ module _ (ws : List ℤ) (p n k : ℕ) (as_many : n ≡ length ws) (some : n ≡
 
 -- ---- for a caller
 
-module _ (ws : List ℤ) (p : ℕ) {r : Reading} where
-  pub node_whole : {k : ReadNode} {next : ℕ} → r ≡ Whole k next → NodeAt ws p r
-      → (i : ℕ) → NodeRead ws p i k.kind next
+module _ (ws : List ℤ) (p : ℕ) {r : Answer (ReadNode × ℕ) Refusal} where
+  pub node_whole : {k : ReadNode} {next : ℕ} → r ≡ Ok (k, next) → NodeAt ws p r
+      → (i : ℕ) → NodeRead ws p i (number_of k.kind) next
   unfolding NodeAt
   node_whole e h = subst (NodeAt ws p) e h
 
-  pub node_refused : {n : ℕ} → r ≡ Refused n → NodeAt ws p r → (i : ℕ) → node i ws ≡ refused n
+  pub node_refused : {k : Refusal} → r ≡ Err k → NodeAt ws p r → (i : ℕ) → node i ws ≡ refused (refusal_number k)
   unfolding NodeAt
   node_refused e h = subst (NodeAt ws p) e h
 
@@ -147,18 +149,18 @@ same_node : {a b : Node × List ℤ} → given a ≡ given b → a.0 ≡ b.0
 same_node {a = a} {b = b} h = ap (λ (q : Node × List ℤ). q.0) (let same : a ≡ b = cc in same)
 
 -- any two readings of the same words are equal
-pub reading_unique : (ws : List ℤ) (p : ℕ) (r s : Reading) → NodeAt ws p r → NodeAt ws p s → r ≡ s
+pub reading_unique : (ws : List ℤ) (p : ℕ) (r s : Answer (ReadNode × ℕ) Refusal) → NodeAt ws p r → NodeAt ws p s → r ≡ s
 unfolding NodeAt
-reading_unique ws p (Whole k n) (Whole j m) h g =
+reading_unique ws p (Ok (k, n)) (Ok (j, m)) h g =
     let a = h 0 in
     let b = g 0 in
     let same : a.it ≡ b.it = same_node (sym a.reads ∙ b.reads) in
-    let kind : k.kind ≡ j.kind = a.kind_is ∙ ap kind_of same ∙ sym b.kind_is in
+    let kind : k.kind ≡ j.kind = same_kind k.kind j.kind (a.kind_is ∙ ap kind_of same ∙ sym b.kind_is) in
     let next : n ≡ m = a.ends ∙ ap (λ (d : Node). p + width d) same ∙ sym b.ends in
-    ap (λ (x : ℕ). Whole (record { kind = x }) n) kind ∙ ap (Whole j) next
-reading_unique ws p (Whole k n) (Refused j) h g = never (sym (g 0) ∙ (h 0).reads)
-reading_unique ws p (Refused k) (Whole j m) h g = never (sym (h 0) ∙ (g 0).reads)
-reading_unique ws p (Refused k) (Refused j) h g =
+    ap (λ (x : Kind). Ok (record { kind = x }, n)) kind ∙ ap (λ (q : ℕ). Ok (j, q)) next
+reading_unique ws p (Ok (k, n)) (Err j) h g = never (sym (g 0) ∙ (h 0).reads)
+reading_unique ws p (Err k) (Ok (j, m)) h g = never (sym (h 0) ∙ (g 0).reads)
+reading_unique ws p (Err k) (Err j) h g =
     let one = h 0 in
     let other = g 0 in
-    cc
+    ap Err (refusal_unique k j (let same : refusal_number k ≡ refusal_number j = cc in same))

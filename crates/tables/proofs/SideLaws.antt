@@ -2,7 +2,7 @@
 -- Assumes nothing.
 use mathlib.Core.Path.{◌≡◌, sym, ◌∙◌, ap}
 use mathlib.Core.List.{List}
-use Prim.Native.Nat.{ℕ, ◌+◌, ◌-◌, ◌*◌, ◌<◌, ◌≤◌}
+use Prim.Native.Nat.{ℕ, ◌+◌, ◌-◌, ◌<◌, ◌≤◌}
 use native.Mathlib.Omega.{arith}
 use lib.IntN.{ℤ, pos}
 use lib.ListN.{length, get_or}
@@ -10,7 +10,7 @@ use Rattle.rules.specs.Rule.{Junction, Rule, Join}
 use Rattle.rules.specs.Table.{count}
 use Rattle.rules.specs.Calls.{signed}
 use Rattle.rules.proofs.Sizes.{weight}
-use Rattle.tables.specs.Standing.{Stands, Few, StandingJoin, RightOf}
+use Rattle.tables.specs.Standing.{Stands, Few, StandingJoin}
 use Rattle.tables.proofs.WordLaws.{number_of}
 use Rattle.tables.proofs.Standings.{right_child, right_entry, right_there}
 
@@ -32,7 +32,7 @@ pub record RightNode (es bs : List ℤ) (n p child : ℕ) : Type 0 where
   pub number : get_or bs 1 (pos 0) ≡ signed child
 
 module _ {es bs : List ℤ} {n p child : ℕ} (right : RightNode es bs n p child) where
-  child_is : (j : Junction) (a b : Rule) → Stands es bs n p (Join j a b) → child ≡ n + (1 + count a)
+  pub child_is : (j : Junction) (a b : Rule) → Stands es bs n p (Join j a b) → child ≡ n + (1 + count a)
   child_is j a b s = number_of child (n + (1 + count a)) (sym right.number ∙ right_child j a b s)
 
   -- of the join that stands there
@@ -45,16 +45,13 @@ module _ {es bs : List ℤ} {n p child : ℕ} (right : RightNode es bs n p child
   pub child_inside : child - n < length es
   child_inside = omega (arith, some_child, (inside right.join).0)
 
-  pub child_counts : (child - n) * 4 ≤ 65536
-  child_counts = omega (arith, child_inside, right.join.few.few_nodes)
-
 -- and its place
 pub record RightPlace (es bs : List ℤ) (n p child at : ℕ) : Type 0 where
   pub node : RightNode es bs n p child
   pub entry : get_or es (child - n) (pos 0) ≡ signed at
 
 module _ {es bs : List ℤ} {n p child at : ℕ} (right : RightPlace es bs n p child at) where
-  at_is : (j : Junction) (a b : Rule) → Stands es bs n p (Join j a b) → at ≡ p + (2 + weight a)
+  pub at_is : (j : Junction) (a b : Rule) → Stands es bs n p (Join j a b) → at ≡ p + (2 + weight a)
   at_is j a b s =
       let skip : child - n ≡ 1 + count a = omega (arith, child_is right.node j a b s) in
       number_of at (p + (2 + weight a))
@@ -65,18 +62,3 @@ module _ {es bs : List ℤ} {n p child at : ℕ} (right : RightPlace es bs n p c
 
   pub at_behind : p ≤ at
   at_behind = omega (arith, some_at)
-
-  pub at_counts : (at - p) * 4 ≤ 65536
-  at_counts = omega (arith, some_at, (inside right.node.join).1, right.node.join.few.few_words)
-
-  pub right_of : (j : Junction) (a b : Rule) → Stands es bs n p (Join j a b)
-      → RightOf n p a (record { node = child; place = at; entries = (child - n) * 4; bodies = (at - p) * 4 })
-  right_of j a b s =
-      let number = child_is right.node j a b s in
-      let place = at_is j a b s in
-      record {
-        number_is = number;
-        place_is = place;
-        entries_are = ap (λ (k : ℕ). k * 4) (let skip : child - n ≡ 1 + count a = omega (arith, number) in skip);
-        bodies_are = ap (λ (k : ℕ). k * 4) (let step : at - p ≡ 2 + weight a = omega (arith, place) in step);
-      }

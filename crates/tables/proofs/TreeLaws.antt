@@ -12,15 +12,16 @@ use Rattle.rules.specs.Table.{Node, constant_node, join_node, not_node, literal_
 use Rattle.rules.proofs.Sizes.{words, weight, length_nodes}
 use Rattle.rules.proofs.Trees.{arity, count_unique, after}
 use Rattle.tables.specs.Checks.{TreeOf}
-use Rattle.tables.specs.declared.check.Tree.{Tree}
-use Rattle.tables.specs.declared.check.Tree.TheVariants.{Ends, Broken}
+use Rattle.std.proofs.Common.{Option, None}
+use Rattle.tables.specs.declared.extent.Extent.{Extent}
+use Rattle.tables.proofs.Extents.{ends}
 
 impossible : {X : Type 0} → ◌≡◌ {A = ℕ} 0 1 → X
 impossible e = absurd (omega arith)
 
 -- ---- nothing left, and a leaf
 
-pub none_left : (v : Tree) → v ≡ Broken → TreeOf [] v
+pub none_left : (v : Option Extent) → v ≡ None → TreeOf [] v
 none_left v e = subst (TreeOf []) (sym e) (unfold TreeOf in none)
   where
     none : (r : Rule) (f : List Node) → ¬ ([] ≡ nodes r ++ f)
@@ -30,7 +31,7 @@ none_left v e = subst (TreeOf []) (sym e) (unfold TreeOf in none)
     none (Literal t s) f e = unfold nodes in let z : ◌≡◌ {A = ℕ} 0 1 = cc in impossible z
     none (Bind q v a) f e = unfold nodes in let z : ◌≡◌ {A = ℕ} 0 1 = cc in impossible z
 
-pub a_leaf : (d : Node) (ds : List Node) → arity d ≡ 0 → TreeOf (d ∷ ds) (Ends 1 (words d))
+pub a_leaf : (d : Node) (ds : List Node) → arity d ≡ 0 → TreeOf (d ∷ ds) (ends 1 (words d))
 unfolding TreeOf nodes arity words weight
 a_leaf (constant_node b) ds e = (Constant b, ds, refl, refl, refl)
 a_leaf (join_node j right) ds e = absurd (omega arith)
@@ -62,14 +63,14 @@ under d ds (Literal t s) f i e = unfold nodes arity in
     absurd (let h : d ≡ literal_node t s = cc in omega (arith, ap arity h))
 under d ds (Bind q v a) f i e = unfold nodes in (a, cc)
 
-pub one_ends : (d : Node) (ds : List Node) (m q : ℕ) → arity d ≡ 1 → TreeOf ds (Ends m q)
-    → TreeOf (d ∷ ds) (Ends (1 + m) (words d + q))
+pub one_ends : (d : Node) (ds : List Node) (m q : ℕ) → arity d ≡ 1 → TreeOf ds (ends m q)
+    → TreeOf (d ∷ ds) (ends (1 + m) (words d + q))
 unfolding TreeOf
 one_ends d ds m q i (a, f, e, c, w) =
     let (r, n, k, l) = over d i a in
     (r, f, ap (λ (g : List Node). d ∷ g) e ∙ ap (λ (g : List Node). g ++ f) (sym n), omega arith, omega arith)
 
-pub one_broken : (d : Node) (ds : List Node) → arity d ≡ 1 → TreeOf ds Broken → TreeOf (d ∷ ds) Broken
+pub one_broken : (d : Node) (ds : List Node) → arity d ≡ 1 → TreeOf ds None → TreeOf (d ∷ ds) None
 unfolding TreeOf
 one_broken d ds i h r f e = let (a, k) = under d ds r f i e in h a f k
 
@@ -86,7 +87,7 @@ both j right ds (Literal t s) f e = unfold nodes in let z : ◌≡◌ {A = ℕ} 
 both j right ds (Bind q v a) f e = unfold nodes in let z : ◌≡◌ {A = ℕ} 0 1 = cc in impossible z
 
 -- the nodes after those of the left child
-pub after_left : (ds : List Node) (m q : ℕ) → TreeOf ds (Ends m q)
+pub after_left : (ds : List Node) (m q : ℕ) → TreeOf ds (ends m q)
     → (a : Rule) × (ds ≡ nodes a ++ drop m ds) × (m ≡ count a) × (q ≡ weight a)
 unfolding TreeOf
 after_left ds m q (a, f, e, c, w) =
@@ -94,12 +95,12 @@ after_left ds m q (a, f, e, c, w) =
     (a, e ∙ ap (λ (g : List Node). nodes a ++ g) (sym behind), c, w)
 
 module _ (j : Junction) (right : ℤ) (ds : List Node) where
-  pub left_broken : TreeOf ds Broken → TreeOf (join_node j right ∷ ds) Broken
+  pub left_broken : TreeOf ds None → TreeOf (join_node j right ∷ ds) None
   unfolding TreeOf
   left_broken h r f e = let (a, b, k, l) = both j right ds r f e in h a (nodes b ++ f) l
 
   -- behind the left child's tree, of m nodes, stands the right child of any rule that begins so
-  behind_left : (m q : ℕ) → TreeOf ds (Ends m q) → (r : Rule) (f : List Node) → join_node j right ∷ ds ≡ nodes r ++ f
+  behind_left : (m q : ℕ) → TreeOf ds (ends m q) → (r : Rule) (f : List Node) → join_node j right ∷ ds ≡ nodes r ++ f
       → (right ≡ pos (1 + m)) × (b : Rule) × (drop m ds ≡ nodes b ++ f)
   behind_left m q h r f e =
       let (a, b, k, l) = both j right ds r f e in
@@ -110,17 +111,17 @@ module _ (j : Junction) (right : ℤ) (ds : List Node) where
         after c a (drop m ds) (nodes b ++ f) same (sym i ∙ l),
       )
 
-  pub wrong_child : (m q : ℕ) → TreeOf ds (Ends m q) → ¬ (right ≡ pos (1 + m)) → TreeOf (join_node j right ∷ ds) Broken
+  pub wrong_child : (m q : ℕ) → TreeOf ds (ends m q) → ¬ (right ≡ pos (1 + m)) → TreeOf (join_node j right ∷ ds) None
   unfolding TreeOf
   wrong_child m q h n r f e = n (behind_left m q h r f e).0
 
-  pub right_broken : (m q : ℕ) → TreeOf ds (Ends m q) → TreeOf (drop m ds) Broken
-      → TreeOf (join_node j right ∷ ds) Broken
+  pub right_broken : (m q : ℕ) → TreeOf ds (ends m q) → TreeOf (drop m ds) None
+      → TreeOf (join_node j right ∷ ds) None
   unfolding TreeOf
   right_broken m q h n r f e = let (child, b, behind) = behind_left m q h r f e in n b f behind
 
-  pub two_end : (m q k w : ℕ) → TreeOf ds (Ends m q) → right ≡ pos (1 + m) → TreeOf (drop m ds) (Ends k w)
-      → TreeOf (join_node j right ∷ ds) (Ends (1 + m + k) (2 + q + w))
+  pub two_end : (m q k w : ℕ) → TreeOf ds (ends m q) → right ≡ pos (1 + m) → TreeOf (drop m ds) (ends k w)
+      → TreeOf (join_node j right ∷ ds) (ends (1 + m + k) (2 + q + w))
   unfolding TreeOf nodes weight
   two_end m q k w h e (b, f, i, c, v) =
       let (a, l, u, x) = after_left ds m q h in

@@ -19,8 +19,9 @@ use Rattle.rules.proofs.Encoding.{AllGood, good_nodes}
 use Rattle.rules.proofs.Trees.{arity}
 use Rattle.tables.specs.Reads.{widths, arities, kind_of}
 use Rattle.tables.specs.Checks.{TreeOf, ListedAs, Listed, TreeAt}
-use Rattle.tables.specs.declared.check.Tree.{Tree}
-use Rattle.tables.specs.declared.check.Tree.TheVariants.{Ends, Broken}
+use Rattle.std.proofs.Common.{Option, Some, None}
+use Rattle.tables.specs.declared.extent.Extent.{Extent}
+use Rattle.tables.proofs.Extents.{ends}
 use Rattle.tables.proofs.WordLaws.{number_of, signed_low}
 use Rattle.tables.proofs.TreeLaws.{
   none_left,
@@ -35,7 +36,10 @@ use Rattle.tables.proofs.TreeLaws.{
 }
 use Rattle.tables.proofs.DueTrees.{beyond, Due, written}
 use Rattle.tables.proofs.Standings.{bodies_append}
-use Rattle.tables.proofs.KindLaws.{kind_read, kind_words, kind_arity}
+use Rattle.tables.specs.declared.kind.Kind.{Kind}
+use Rattle.tables.specs.Kinds.{number_of as number_of_kind}
+use Rattle.tables.proofs.RootKinds.{node_kind}
+use Rattle.tables.proofs.KindLaws.{first_word, kind_read, kind_words, kind_arity}
 
 -- ---- the root of some bodies whose first word is k
 
@@ -89,12 +93,12 @@ two_children (bind_node q v) f g = absurd (g refl)
 
 -- ---- the steps of the walk
 
-pub tree_none : (bs : List ℤ) (n left : ℕ) → left ≡ 0 → TreeAt bs n left Broken
+pub tree_none : (bs : List ℤ) (n left : ℕ) → left ≡ 0 → TreeAt bs n left None
 unfolding TreeAt
 tree_none bs n left z ds L = go ds L.long
   where
-    go : (ds : List Node) → length ds ≡ left → TreeOf ds Broken
-    go [] l = none_left Broken refl
+    go : (ds : List Node) → length ds ≡ left → TreeOf ds None
+    go [] l = none_left None refl
     go (d ∷ ds) l = absurd (omega arith)
 
 -- some bodies, the first of them of kind k
@@ -110,12 +114,12 @@ module _ {bs : List ℤ} {n left k : ℕ} (head : Headed bs n left k) where
   some_root : Rooted bs n left k head.bodies.nodes
   some_root = root_of head.bodies.listed
 
-  pub tree_leaf : get_or arities k 0 ≡ 0 → TreeAt bs n left (Ends 1 (get_or widths k 0))
+  pub tree_leaf : get_or arities k 0 ≡ 0 → TreeAt bs n left (ends 1 (get_or widths k 0))
   unfolding TreeAt
   tree_leaf z ds L =
       let r = root_of L in
-      subst (λ (fs : List Node). TreeOf fs (Ends 1 (get_or widths k 0))) (sym r.is)
-      (subst (λ (m : ℕ). TreeOf (r.root ∷ r.after) (Ends 1 m)) (sym r.wide)
+      subst (λ (fs : List Node). TreeOf fs (ends 1 (get_or widths k 0))) (sym r.is)
+      (subst (λ (m : ℕ). TreeOf (r.root ∷ r.after) (ends 1 m)) (sym r.wide)
       (a_leaf r.root r.after (sym r.children ∙ z)))
 
   pub listed_behind : Listed (drop (get_or widths k 0) bs) (n + 1) (left - 1) × (get_or widths k 0 ≤ length bs)
@@ -125,7 +129,7 @@ module _ {bs : List ℤ} {n left k : ℕ} (head : Headed bs n left k) where
   )
 
   -- the first child's verdict
-  first_child : (v : Tree) → TreeAt (drop (get_or widths k 0) bs) (n + 1) (left - 1) v
+  first_child : (v : Option Extent) → TreeAt (drop (get_or widths k 0) bs) (n + 1) (left - 1) v
       → {ds : List Node} (r : Rooted bs n left k ds) → TreeOf r.after v
   unfolding TreeAt
   first_child v t r = t r.after r.behind
@@ -145,10 +149,10 @@ module _ {bs : List ℤ} {n left k : ℕ} (head : Headed bs n left k) where
         (over r.root r.after (sym r.children ∙ one) v (first_child v t r)));
   }
     where
-      over : (d : Node) (ds : List Node) → arity d ≡ 1 → (v : Tree) → TreeOf ds v
+      over : (d : Node) (ds : List Node) → arity d ≡ 1 → (v : Option Extent) → TreeOf ds v
           → TreeOf (d ∷ ds) (beyond 1 (words d) v)
-      over d ds i (Ends m q) c = one_ends d ds m q i c
-      over d ds i Broken c = one_broken d ds i c
+      over d ds i (Some e) c = one_ends d ds e.nodes e.words i c
+      over d ds i None c = one_broken d ds i c
 
   -- ---- two children
 
@@ -173,20 +177,20 @@ module _ {bs : List ℤ} {n left k : ℕ} (head : Headed bs n left k) where
         let r = p.rooted_at in
         omega (arith, root_inside r, r.wide, ap words p.is)
 
-    pub tree_left_broken : TreeAt (drop (get_or widths k 0) bs) (n + 1) (left - 1) Broken → TreeAt bs n left Broken
+    pub tree_left_broken : TreeAt (drop (get_or widths k 0) bs) (n + 1) (left - 1) None → TreeAt bs n left None
     unfolding TreeAt
     tree_left_broken t ds L =
         let p = pair L in
-        subst (λ (fs : List Node). TreeOf fs Broken) (sym p.whole)
-        (left_broken p.joint p.right p.rooted_at.after (first_child Broken t p.rooted_at))
+        subst (λ (fs : List Node). TreeOf fs None) (sym p.whole)
+        (left_broken p.joint p.right p.rooted_at.after (first_child None t p.rooted_at))
 
     -- behind the left child's tree, of m nodes and q words, where the right child's number is u
-    module _ (m q u : ℕ) (t : TreeAt (drop (get_or widths k 0) bs) (n + 1) (left - 1) (Ends m q))
+    module _ (m q u : ℕ) (t : TreeAt (drop (get_or widths k 0) bs) (n + 1) (left - 1) (ends m q))
         (second : get_or bs 1 (pos 0) ≡ signed u) where
       -- the rule of the left child
       module _ {ds : List Node} (r : Rooted bs n left k ds) where
         left_rule : (a : Rule) × (r.after ≡ nodes a ++ drop m r.after) × (m ≡ count a) × (q ≡ weight a)
-        left_rule = after_left r.after m q (first_child (Ends m q) t r)
+        left_rule = after_left r.after m q (first_child (ends m q) t r)
 
         few : m ≤ left - 1
         few =
@@ -225,13 +229,13 @@ module _ {bs : List ℤ} {n left k : ℕ} (head : Headed bs n left k) where
           word p.joint p.right r.after
           (r.bodies_are ∙ ap (λ (d : Node). body n d ++ bodies (n + 1) r.after) p.is)
 
-      pub tree_wrong : ¬ (u ≡ n + 1 + m) → TreeAt bs n left Broken
+      pub tree_wrong : ¬ (u ≡ n + 1 + m) → TreeAt bs n left None
       unfolding TreeAt
       tree_wrong f ds L =
           let p = pair L in
           let r = p.rooted_at in
-          subst (λ (fs : List Node). TreeOf fs Broken) (sym p.whole)
-          (wrong_child p.joint p.right r.after m q (first_child (Ends m q) t r)
+          subst (λ (fs : List Node). TreeOf fs None) (sym p.whole)
+          (wrong_child p.joint p.right r.after m q (first_child (ends m q) t r)
           (λ i. f (number p.right (child p) i)))
         where
           number : (z : ℤ) → pos n +ℤ z ≡ signed u → z ≡ pos (1 + m) → u ≡ n + 1 + m
@@ -254,17 +258,17 @@ module _ {bs : List ℤ} {n left k : ℕ} (head : Headed bs n left k) where
             subst (λ (fs : List Node). TreeOf fs (beyond (1 + m) (get_or widths k 0 + q) v)) (sym p.whole)
             (subst (λ (y : ℕ). TreeOf (join_node p.joint p.right ∷ r.after) (beyond (1 + m) (y + q) v))
             (sym wide)
-            (joined p.joint p.right r.after right (first_child (Ends m q) t r) v
+            (joined p.joint p.right r.after right (first_child (ends m q) t r) v
             (at (drop m r.after) (second_listed r))));
       }
         where
           right_of : (n c : ℕ) (z : ℤ) → pos n +ℤ z ≡ pos (n + c) → z ≡ pos c
           right_of n c = z1 _ (simp zz (omega arith))
 
-          joined : (j : Junction) (right : ℤ) (ds : List Node) → right ≡ pos (1 + m) → TreeOf ds (Ends m q)
-              → (v : Tree) → TreeOf (drop m ds) v → TreeOf (join_node j right ∷ ds) (beyond (1 + m) (2 + q) v)
-          joined j right ds i c (Ends o x) d = two_end j right ds m q o x c i d
-          joined j right ds i c Broken d = right_broken j right ds m q c d
+          joined : (j : Junction) (right : ℤ) (ds : List Node) → right ≡ pos (1 + m) → TreeOf ds (ends m q)
+              → (v : Option Extent) → TreeOf (drop m ds) v → TreeOf (join_node j right ∷ ds) (beyond (1 + m) (2 + q) v)
+          joined j right ds i c (Some e) d = two_end j right ds m q e.nodes e.words c i d
+          joined j right ds i c None d = right_broken j right ds m q c d
 
 -- some bodies have a first word
 pub listed_some : {bs : List ℤ} {n left : ℕ} → Listed bs n left → 0 < left → 0 < length bs
@@ -275,8 +279,20 @@ listed_some {bs} {n} {left} L h = go L.nodes L.listed.bodies_are L.listed.long
     go (d ∷ ds) b l = unfold bodies in
         omega (arith, ap length b, length-append (body n d) (bodies (n + 1) ds), length_body n d, words_pos d)
 
+-- and it is the number of a kind
+pub listed_kind : {bs : List ℤ} {n left : ℕ} → Listed bs n left → 0 < left
+    → (k : Kind) × (get_or bs 0 (pos 0) ≡ pos (number_of_kind k))
+listed_kind {bs} {n} {left} L h = go L.nodes L.listed.bodies_are L.listed.long
+  where
+    go : (ds : List Node) → bs ≡ bodies n ds → length ds ≡ left
+        → (k : Kind) × (get_or bs 0 (pos 0) ≡ pos (number_of_kind k))
+    go [] b l = absurd (omega arith)
+    go (d ∷ ds) b l = unfold bodies in
+        let (k, e) = node_kind d in
+        (k, ap (λ (ws : List ℤ). get_or ws 0 (pos 0)) b ∙ first_word n d (bodies (n + 1) ds) ∙ ap pos e)
+
 -- a tree that starts some bodies is no longer than they are
-pub tree_fits : {bs : List ℤ} {n left : ℕ} (m q : ℕ) → Listed bs n left → TreeAt bs n left (Ends m q)
+pub tree_fits : {bs : List ℤ} {n left : ℕ} (m q : ℕ) → Listed bs n left → TreeAt bs n left (ends m q)
     → (m ≤ left) × (q ≤ length bs)
 unfolding TreeAt
 tree_fits {n = n} m q L t =

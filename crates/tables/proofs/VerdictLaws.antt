@@ -21,26 +21,31 @@ use Rattle.rules.proofs.Refusals.{then, stopped, passed, failed}
 use Rattle.rules.proofs.Sizes.{length_nodes}
 use Rattle.rules.proofs.Trees.{tree_given, tree_refused, count_unique}
 use Rattle.tables.specs.Checks.{TreeOf, ListedAs, Listed, TreeAt, Judged, rest, Verdict}
-use Rattle.tables.specs.declared.check.Tree.{Tree}
-use Rattle.tables.specs.declared.check.Tree.TheVariants.{Ends, Broken}
-use Rattle.tables.specs.declared.check.Checked.{Checked}
-use Rattle.tables.specs.declared.check.Checked.TheVariants.{Table, Not}
+use Rattle.std.proofs.Common.{Option, None}
+use Rattle.tables.specs.declared.extent.Extent.{Extent}
+use Rattle.tables.proofs.Extents.{ends}
+use Rattle.std.proofs.Common.{Result as Answer, Ok, Err}
+use Rattle.tables.specs.declared.refusal.Refusal.{Refusal}
+use Rattle.tables.specs.declared.refusal.Refusal.TheVariants as refusal
+use Rattle.tables.specs.Refusals.{number_of as refusal_number}
+use Rattle.tables.proofs.RefusalLaws.{refusal_unique}
 use Rattle.tables.proofs.WordLaws.{part, words_from, number_of, signed_low}
 use Rattle.tables.proofs.Fields.{cut_given, cut_refused}
 use Rattle.tables.proofs.NodeSteps.{were_read}
 
 -- any two verdicts on the same bytes are equal
-pub verdict_unique : (x : Result Rule) (v w : Checked) → Verdict x v → Verdict x w → v ≡ w
+pub verdict_unique : (x : Result Rule) (v w : Answer ℕ Refusal) → Verdict x v → Verdict x w → v ≡ w
 unfolding Verdict
-verdict_unique x (Table n) (Table m) (r, e, c) (s, f, d) = ap Table (let same : r ≡ s = cc in c ∙ ap count same ∙ sym d)
-verdict_unique x (Table n) (Not k) (r, e, c) f = cc
-verdict_unique x (Not k) (Table n) e (r, f, c) = cc
-verdict_unique x (Not k) (Not j) e f = cc
+verdict_unique x (Ok n) (Ok m) (r, e, c) (s, f, d) = ap Ok (let same : r ≡ s = cc in c ∙ ap count same ∙ sym d)
+verdict_unique x (Ok n) (Err k) (r, e, c) f = cc
+verdict_unique x (Err k) (Ok n) e (r, f, c) = cc
+verdict_unique x (Err k) (Err j) e f =
+    ap Err (refusal_unique k j (let same : refusal_number k ≡ refusal_number j = cc in same))
 
 -- ---- 1: "byte length no multiple of 4, no words, over 16,384 words, n below 1, or n+1 over the length"
 
-pub verdict_odd : (l : List ℕ) → ¬ (length l % 4 ≡ 0) → Verdict (rule_of l) (Not 1)
-unfolding Verdict rule_of
+pub verdict_odd : (l : List ℕ) → ¬ (length l % 4 ≡ 0) → Verdict (rule_of l) (Err refusal.Length)
+unfolding Verdict refusal_number rule_of
 verdict_odd l f = stopped _ (failed (eqb (length l % 4) 0) 1 (λ t. f (eqb→eq (length l % 4) 0 t)))
 
 whole_words : (l : List ℕ) → length l % 4 ≡ 0 → rule_of l ≡ decode (words l)
@@ -65,8 +70,8 @@ too_long (pos k) ws h = test_first k ws (λ t. absurd (omega (arith, (tests k ws
 
 -- no words, or too many
 pub verdict_size : (l : List ℕ) → length l % 4 ≡ 0 → (length (words l) ≡ 0) ⊎ (most_words < length (words l))
-    → Verdict (rule_of l) (Not 1)
-unfolding Verdict
+    → Verdict (rule_of l) (Err refusal.Length)
+unfolding Verdict refusal_number
 verdict_size l e h = whole_words l e ∙ go (words l) h
   where
     go : (W : List ℤ) → (length W ≡ 0) ⊎ (most_words < length W) → decode W ≡ refused 1
@@ -92,8 +97,8 @@ decode_count (pos k) ws n e h = go (T_dec (leb (suc (length ws)) most_words && l
 
 -- n below 1, or n + 1 over the length
 pub verdict_count : (l : List ℕ) (n : ℕ) → length l % 4 ≡ 0 → get_or (words l) 0 (pos 0) ≡ signed n → 0 < length (words l)
-    → (n < 1) ⊎ (length (words l) ≤ n) → Verdict (rule_of l) (Not 1)
-unfolding Verdict
+    → (n < 1) ⊎ (length (words l) ≤ n) → Verdict (rule_of l) (Err refusal.Length)
+unfolding Verdict refusal_number
 verdict_count l n e f s h = whole_words l e ∙ go (words l) f s h
   where
     go : (W : List ℤ) → get_or W 0 (pos 0) ≡ signed n → 0 < length W → (n < 1) ⊎ (length W ≤ n) → decode W ≡ refused 1
@@ -143,12 +148,10 @@ rule_is l n s = whole_words l s.whole ∙ go (words l) s.first s.inside s.most
         (decode_is n ws s.some (omega arith) m)
 
 -- a node's refusal is the table's
-pub verdict_nodes : (l : List ℕ) (n k : ℕ) {v : Checked} → Sized l n → v ≡ Not k
-    → Judged length (rest (words l) n 0 (n + 1)) v → Verdict (rule_of l) v
+pub verdict_nodes : (l : List ℕ) (n : ℕ) {k : Refusal} {v : Answer ℕ Refusal} → Sized l n → v ≡ Err k
+    → Judged length (rest (words l) n 0 (n + 1)) v → Verdict (rule_of l) (Err k)
 unfolding Verdict
-verdict_nodes l n k s e h =
-    subst (Verdict (rule_of l)) (sym e)
-    (rule_is l n s ∙ stopped tree_of (subst (Judged length (rest (words l) n 0 (n + 1))) e h))
+verdict_nodes l n s e h = rule_is l n s ∙ stopped tree_of (subst (Judged length (rest (words l) n 0 (n + 1))) e h)
 
 -- ---- where the nodes were read
 
@@ -157,7 +160,7 @@ pub record NodesRead (l : List ℕ) (n : ℕ) : Type 0 where
   pub nodes : List Node
   pub reads : rest (words l) n 0 (n + 1) ≡ given nodes
 
-pub nodes_read : (l : List ℕ) (n m : ℕ) {v : Checked} → Sized l n → v ≡ Table m
+pub nodes_read : (l : List ℕ) (n m : ℕ) {v : Answer ℕ Refusal} → Sized l n → v ≡ Ok m
     → Judged length (rest (words l) n 0 (n + 1)) v → NodesRead l n
 unfolding Judged
 nodes_read l n m s e h =
@@ -176,21 +179,21 @@ module _ {l : List ℕ} {n : ℕ} (read : NodesRead l n) where
   read_whole : rule_of l ≡ tree_of read.nodes
   read_whole = rule_is l n read.sized ∙ then tree_of read.reads
 
-  tree : {v w : Tree} → v ≡ w → TreeAt (part l (n + 1)) 0 n v → TreeOf read.nodes w
+  tree : {v w : Option Extent} → v ≡ w → TreeAt (part l (n + 1)) 0 n v → TreeOf read.nodes w
   unfolding TreeAt
   tree e t = subst (TreeOf read.nodes) e (t read.nodes listed_as)
 
-  no_rule : ((r : Rule) → ¬ (read.nodes ≡ nodes r)) → Verdict (rule_of l) (Not 4)
-  unfolding tree_of Verdict
+  no_rule : ((r : Rule) → ¬ (read.nodes ≡ nodes r)) → Verdict (rule_of l) (Err refusal.Tree)
+  unfolding tree_of Verdict refusal_number
   no_rule h = read_whole ∙ tree_refused read.nodes h
 
-  pub verdict_broken : {v : Tree} → v ≡ Broken → TreeAt (part l (n + 1)) 0 n v → Verdict (rule_of l) (Not 4)
+  pub verdict_broken : {v : Option Extent} → v ≡ None → TreeAt (part l (n + 1)) 0 n v → Verdict (rule_of l) (Err refusal.Tree)
   unfolding TreeOf
   verdict_broken e t = no_rule (λ r k. tree e t r [] (k ∙ sym (append-nil (nodes r))))
 
   -- "the root's subtree is the whole table"
-  pub verdict_left : {v : Tree} (m q : ℕ) → v ≡ Ends m q → TreeAt (part l (n + 1)) 0 n v → ¬ (m ≡ n)
-      → Verdict (rule_of l) (Not 4)
+  pub verdict_left : {v : Option Extent} (m q : ℕ) → v ≡ ends m q → TreeAt (part l (n + 1)) 0 n v → ¬ (m ≡ n)
+      → Verdict (rule_of l) (Err refusal.Tree)
   unfolding TreeOf
   verdict_left m q e t other =
       let (r, f, whole, c, w) = tree e t in
@@ -198,8 +201,8 @@ module _ {l : List ℕ} {n : ℕ} (read : NodesRead l n) where
       let same : count r ≡ count s = count_unique r s f [] (sym whole ∙ k ∙ sym (append-nil (nodes s))) in
       other (c ∙ same ∙ sym (length_nodes s) ∙ ap length (sym k) ∙ listed_as.long))
 
-  pub verdict_rule : {v : Tree} (m q : ℕ) → v ≡ Ends m q → TreeAt (part l (n + 1)) 0 n v → m ≡ n
-      → Verdict (rule_of l) (Table n)
+  pub verdict_rule : {v : Option Extent} (m q : ℕ) → v ≡ ends m q → TreeAt (part l (n + 1)) 0 n v → m ≡ n
+      → Verdict (rule_of l) (Ok n)
   unfolding TreeOf Verdict tree_of
   verdict_rule m q e t i =
       let (r, f, whole, c, w) = tree e t in

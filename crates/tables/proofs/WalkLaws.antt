@@ -11,9 +11,13 @@ use lib.Seq.{drop-drop, get_or-drop}
 use Rattle.rules.specs.Calls.{signed, words}
 use Rattle.tables.specs.Reads.{widths, arities}
 use Rattle.tables.specs.Checks.{Listed, TreeAt}
-use Rattle.tables.specs.declared.check.Tree.{Tree}
-use Rattle.tables.specs.declared.check.Tree.TheVariants.{Ends, Broken}
-use Rattle.tables.proofs.WordLaws.{part, words_from, words_length}
+use Rattle.std.proofs.Common.{Option, None}
+use Rattle.tables.specs.declared.extent.Extent.{Extent}
+use Rattle.tables.proofs.Extents.{ends}
+use Rattle.tables.specs.declared.kind.Kind.{Kind}
+use Rattle.tables.specs.Kinds.{number_of, Kinded}
+use Rattle.tables.proofs.RootKinds.{small}
+use Rattle.tables.proofs.WordLaws.{part, words_from, words_length, signed_low}
 use Rattle.tables.proofs.DueTrees.{Due, due_further}
 use Rattle.tables.proofs.TreeSteps.{
   Headed,
@@ -25,6 +29,7 @@ use Rattle.tables.proofs.TreeSteps.{
   two_words,
   listed_behind,
   listed_some,
+  listed_kind,
   tree_fits,
 }
 
@@ -43,9 +48,23 @@ pub record Turn (l : List ℕ) (n left m w k x c : ℕ) : Type 0 where
   pub children : c ≡ get_or arities k 0
 
 -- its kind can be read
-pub first_word : (l : List ℕ) {n left m w : ℕ} → Due (words l) n left m w → m < left → w < length (words l)
+first_word : (l : List ℕ) {n left m w : ℕ} → Due (words l) n left m w → m < left → w < length (words l)
 first_word l {w = w} due some =
     omega (arith, listed_some due.listed (omega arith), length-drop w (words l))
+
+pub first_kind : (l : List ℕ) {n left m w : ℕ} → Due (words l) n left m w → m < left → Kinded (words l) w
+first_kind l {w = w} due some =
+    let (k, e) = listed_kind due.listed (omega arith) in
+    record {
+      there = first_word l due some;
+      kind = k;
+      numbered = ap (λ (i : ℕ). get_or (words l) i (pos 0)) (sym (add-zero w)) ∙ sym (get_or-drop w (words l) 0 (pos 0)) ∙ e;
+    }
+
+-- the number of a kind that stands there
+pub kind_first : (l : List ℕ) (w : ℕ) (k : Kind) → get_or (words l) w (pos 0) ≡ pos (number_of k)
+    → get_or (words l) w (pos 0) ≡ signed (number_of k)
+kind_first l w k e = e ∙ sym (signed_low (number_of k) (small k))
 
 module _ {l : List ℕ} {n left m w k x c : ℕ} (turn : Turn l n left m w k x c) where
   head : Headed (drop w (words l)) (n + m) (left - m) k
@@ -55,10 +74,10 @@ module _ {l : List ℕ} {n left m w k x c : ℕ} (turn : Turn l n left m w k x c
     kind = get_or-drop w (words l) 0 (pos 0) ∙ ap (λ (i : ℕ). get_or (words l) i (pos 0)) (add-zero w) ∙ turn.first;
   }
 
-  pub walk_leaf : c ≡ 0 → TreeAt (words l) n left (Ends (m + 1) (w + x))
+  pub walk_leaf : c ≡ 0 → TreeAt (words l) n left (ends (m + 1) (w + x))
   walk_leaf z =
-      subst (λ (y : ℕ). TreeAt (words l) n left (Ends (m + 1) (w + y))) (sym turn.wide)
-      (turn.due.verdict (Ends 1 (get_or widths k 0)) (tree_leaf head (sym turn.children ∙ z)))
+      subst (λ (y : ℕ). TreeAt (words l) n left (ends (m + 1) (w + y))) (sym turn.wide)
+      (turn.due.verdict (ends 1 (get_or widths k 0)) (tree_leaf head (sym turn.children ∙ z)))
 
   pub walk_only : c ≡ 1 → Due (words l) n left (m + 1) (w + x)
   walk_only z =
@@ -92,7 +111,7 @@ module _ {l : List ℕ} {n left m w k x c : ℕ} (turn : Turn l n left m w k x c
   )
 
   -- what that walk found, in words
-  found : {v s : Tree} → v ≡ s → TreeAt (part l (w + x)) (n + m + 1) (left - m - 1) v
+  found : {v s : Option Extent} → v ≡ s → TreeAt (part l (w + x)) (n + m + 1) (left - m - 1) v
       → TreeAt (drop (get_or widths k 0) (drop w (words l))) (n + m + 1) (left - m - 1) s
   found {s = s} e t =
       subst (λ (bs : List ℤ). TreeAt bs (n + m + 1) (left - m - 1) s) behind
@@ -116,21 +135,22 @@ module _ {l : List ℕ} {n left m w k x c : ℕ} (pair : Pair l n left m w k x c
   second_word =
       omega (arith, two_words (head pair.turn) some_child more_children, length-drop w (words l))
 
-  pub walk_broken : {v : Tree} → v ≡ Broken → TreeAt (part l (w + x)) (n + m + 1) (left - m - 1) v
-      → TreeAt (words l) n left v
-  walk_broken e t =
+  -- the walk over the left child answers v, and r is answered
+  pub walk_broken : {v r : Option Extent} → v ≡ None → r ≡ None → TreeAt (part l (w + x)) (n + m + 1) (left - m - 1) v
+      → TreeAt (words l) n left r
+  walk_broken e same t =
       let turn = pair.turn in
-      subst (TreeAt (words l) n left) (sym e)
-      (turn.due.verdict Broken (tree_left_broken (head turn) some_child more_children (found turn e t)))
+      subst (TreeAt (words l) n left) (sym same)
+      (turn.due.verdict None (tree_left_broken (head turn) some_child more_children (found turn e t)))
 
 -- ---- the left child's tree is found, of i nodes and q words, and the right child's number is u
 
 pub record LeftTree (l : List ℕ) (n left m w k x c i q u : ℕ) : Type 0 where
   pub pair : Pair l n left m w k x c
-  pub tree : TreeAt (drop (get_or widths k 0) (drop w (words l))) (n + m + 1) (left - m - 1) (Ends i q)
+  pub tree : TreeAt (drop (get_or widths k 0) (drop w (words l))) (n + m + 1) (left - m - 1) (ends i q)
   pub second : get_or (words l) (w + 1) (pos 0) ≡ signed u
 
-pub left_found : {l : List ℕ} {n left m w k x c i q u : ℕ} {v : Tree} → Pair l n left m w k x c → v ≡ Ends i q
+pub left_found : {l : List ℕ} {n left m w k x c i q u : ℕ} {v : Option Extent} → Pair l n left m w k x c → v ≡ ends i q
     → TreeAt (part l (w + x)) (n + m + 1) (left - m - 1) v → get_or (words l) (w + 1) (pos 0) ≡ signed u
     → LeftTree l n left m w k x c i q u
 left_found pair e t second = record { pair = pair; tree = found pair.turn e t; second = second }
@@ -151,9 +171,9 @@ module _ {l : List ℕ} {n left m w k x c i q u : ℕ} (left_tree : LeftTree l n
         omega (arith, inside, (below turned).1, turned.wide, long, length-drop w (words l)),
       )
 
-  pub walk_wrong : ¬ (u ≡ n + m + 1 + i) → TreeAt (words l) n left Broken
+  pub walk_wrong : ¬ (u ≡ n + m + 1 + i) → TreeAt (words l) n left None
   walk_wrong f =
-      turned.due.verdict Broken
+      turned.due.verdict None
       (tree_wrong (head turned) (some_child left_tree.pair) (more_children left_tree.pair) i q u
       left_tree.tree number f)
 

@@ -2,19 +2,21 @@
 -- Assumes nothing.
 use mathlib.Core.Path.{◌≡◌, refl, sym, ap, ◌∙◌}
 use mathlib.Core.Bool.{Bool, true, false, cond}
-use mathlib.Core.List.{List, [], ◌∷◌}
+use mathlib.Core.List.{List, [], ◌∷◌, ◌++◌, append_assoc}
 use Prim.Native.Nat.{ℕ, zero, suc, ◌+◌, ◌-◌, ◌*◌, ◌/◌, ◌%◌, ◌<◌, ◌≤◌}
 use native.Mathlib.Omega.{arith}
 use borrow.Author.Rules.{part_to_end}
+use borrow.Rule.Slice.PartMut.{put_mid}
 use borrow.Author.Tests.{lt-ltb, le-ltb, ltb-true, ltb-false}
 use lib.Dec.{ltb}
 use lib.IntN.{ℤ, pos, negsuc}
 use lib.ListN.{length, get_or, take, drop, set, replicate}
-use lib.Seq.{sets, take-nil, drop-nil}
+use lib.Seq.{sets, take-nil, drop-nil, drop-drop}
+use Rattle.std.proofs.lemmas.List.Edits.{sets-eq}
 use mir.Syntax.{w32}
 use mir.Val.{SFits}
 use Rattle.rules.specs.Calls.{signed, bits, words, bytes_of}
-use Rattle.tables.specs.WordBytes.{bits_at, bytes_of_bits}
+use Rattle.tables.specs.WordBytes.{bits_at}
 use Rattle.tables.proofs.SignedBits.{signed_bits}
 
 -- ---- a word's bits and its number, for a caller of `natural`
@@ -119,14 +121,20 @@ words_set (a ∷ b ∷ c ∷ d ∷ l) (suc i) v f h =
     rw (next i)
     (ap (λ (ws : List ℤ). signed (a + 256 * (b + 256 * (c + 256 * d))) ∷ ws) (words_set l i v f (omega arith)))
 
--- a store of the bits of v
-pub words_put : (l m : List ℕ) (i u : ℕ) (v : ℤ) → SFits w32 v → i < length (words l) → u ≡ bits v
-    → m ≡ sets l (i * 4) (bytes_of_bits u)
+-- four bytes over those of word i
+pub stored : (l ys : List ℕ) (i n : ℕ) → i < length (words l) → length ys ≡ 4 → n ≡ 4
+    → put_mid (i * 4) n l ys ≡ sets l (i * 4) ys
+stored l ys i n h four m =
+    let all : i * 4 + n ≡ i * 4 + length ys = omega arith in
+    let there : i * 4 + length ys ≤ length l = omega (arith, word_bytes l i h) in
+    ap (λ (zs : List ℕ). take (i * 4) l ++ (ys ++ zs)) (drop-drop n (i * 4) l ∙ ap (λ (k : ℕ). drop k l) all)
+    ∙ sym (append_assoc (take (i * 4) l) ys (drop (i * 4 + length ys) l)) ∙ sym (sets-eq ys l (i * 4) there)
+
+-- a store of the bytes of v
+pub words_put : (l m : List ℕ) (i : ℕ) (v : ℤ) → SFits w32 v → i < length (words l)
+    → m ≡ sets l (i * 4) (bytes_of (v ∷ []))
     → (words m ≡ set (words l) i v) × (m ≡ sets l (i * 4) (bytes_of (v ∷ [])))
-unfolding bytes_of
-words_put l m i u v f h e p =
-    let q = p ∙ ap (λ (u : ℕ). sets l (i * 4) (bytes_of_bits u)) e in
-    (ap words q ∙ words_set l i v f h, q)
+words_put l m i v f h e = (ap words e ∙ words_set l i v f h, e)
 
 -- ---- parts
 

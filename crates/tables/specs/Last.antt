@@ -1,12 +1,11 @@
 -- The quantifier that is chosen, the last in preorder: where it stands among a rule's nodes, and in the rule's table.
 -- Assumes nothing.
-use Rattle.std.specs.Prelude.{◌≡◌, Bool, true, false, ◌||◌, ℕ, ◌+◌, ◌<◌, eqb}
+use Rattle.std.specs.Prelude.{◌≡◌, Bool, true, false, ◌||◌, ℕ, ◌+◌, ◌<◌, eqb, Option, Some, None}
 use Rattle.rules.specs.Rule.{Rule, Constant, Join, Not, Literal, Bind}
 use Rattle.rules.specs.Table.{count}
 use Rattle.rules.specs.Chosen.{quantifiers, quantified}
 use Rattle.rules.proofs.Sizes.{weight}
-use Rattle.tables.specs.declared.quantifiers.Found.{Found}
-use Rattle.tables.specs.declared.quantifiers.Found.TheVariants.{Nothing, At}
+use Rattle.tables.specs.declared.quantifiers.Spot.{Spot}
 
 -- kinds 8 and 9: for some, for all
 abbrev pub binds : ℕ → Bool
@@ -32,7 +31,7 @@ chosen_place (Literal t s) = 0
 chosen_place (Bind q v a) = elim (quantified a) [ true ↦ 2 + chosen_place a | false ↦ 0 ]
 
 -- what is found of it in the rule's table: the bodies start behind the count and the entries
-unfoldable pub LastAt : Rule → Found → Type 0
+unfoldable pub LastAt : Rule → Option Spot → Type 0
 unfolding count
-LastAt r Nothing = quantifiers r ≡ 0
-LastAt r (At i p) = (0 < quantifiers r) × (i ≡ chosen_number r) × (p ≡ count r + 1 + chosen_place r)
+LastAt r None = quantifiers r ≡ 0
+LastAt r (Some s) = (0 < quantifiers r) × (s.node ≡ chosen_number r) × (s.place ≡ count r + 1 + chosen_place r)

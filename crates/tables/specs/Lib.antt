@@ -1,6 +1,9 @@
+pub mod Refusals
+pub mod Kinds
 pub mod WordBytes
 pub mod Settings
 pub mod Standing
 pub mod Last
 pub mod Reads
 pub mod Checks
+pub mod Parts

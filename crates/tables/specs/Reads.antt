@@ -1,12 +1,15 @@
 -- What reading a field and a node answers, against the definitions of Decode.
 -- Assumes nothing.
-use Rattle.std.specs.Prelude.{◌≡◌, Bool, true, false, List, [], ◌∷◌, ℕ, ◌+◌, ◌≤◌, ℤ, length, get_or, drop}
+use Rattle.std.specs.Prelude.{◌≡◌, Bool, true, false, List, [], ◌∷◌, ℕ, ◌+◌, ◌≤◌, ℤ, length, get_or, drop, Ok, Err}
+use Rattle.std.specs.Prelude.{Result as Answer}
 use Rattle.rules.specs.Rule.{Junction, and, or, Quantifier, for_some, for_all, Test, positive, divisible, is_zero}
 use Rattle.rules.specs.Result.{Result, refused, given}
 use Rattle.rules.specs.Table.{Node, constant_node, join_node, not_node, literal_node, bind_node, width, up_to}
 use Rattle.rules.specs.Decode.{checked, sum_field, divisor_and_sum, kinds, node}
-use Rattle.tables.specs.declared.reading.Reading.{Reading}
-use Rattle.tables.specs.declared.reading.Reading.TheVariants.{Whole, Refused}
+use Rattle.tables.specs.declared.reading.Node.{Node as ReadNode}
+use Rattle.tables.specs.declared.refusal.Refusal.{Refusal}
+use Rattle.tables.specs.Refusals.{number_of}
+use Rattle.tables.specs.Kinds.{number_of as kind_number}
 
 -- ---- fields
 
@@ -35,10 +38,6 @@ DividedAt ws r = (b : Bool) → Passes (divisor_and_sum b (drop 1 ws)) r
 -- the words of a body by its kind, 0 first
 abbrev pub widths : List ℕ
 widths = 1 ∷ 1 ∷ 2 ∷ 2 ∷ 1 ∷ 8 ∷ 9 ∷ 9 ∷ 2 ∷ 2 ∷ 8 ∷ []
-
--- the form of what follows it: nothing, a right child, a sum, a divisor and a sum, a setting
-abbrev pub forms : List ℕ
-forms = 0 ∷ 0 ∷ 1 ∷ 1 ∷ 0 ∷ 2 ∷ 3 ∷ 3 ∷ 4 ∷ 4 ∷ 2 ∷ []
 
 -- how many children its node has
 abbrev pub arities : List ℕ
@@ -83,12 +82,7 @@ pub record NodeRead (ws : List ℤ) (p i k next : ℕ) : Type 0 where
   pub kind_is : k ≡ kind_of it
 
 -- the node whose body starts ws at place p; or the refusal. The number that the node has makes no difference
-unfoldable pub NodeAt : List ℤ → ℕ → Reading → Type 0
+unfoldable pub NodeAt : List ℤ → ℕ → Answer (ReadNode × ℕ) Refusal → Type 0
 unfolding node
-NodeAt ws p (Whole k next) = (i : ℕ) → NodeRead ws p i k.kind next
-NodeAt ws p (Refused n) = (i : ℕ) → node i ws ≡ refused n
-
--- the answer's number: "0 answered"
-abbrev pub answer_number : Reading → ℕ
-answer_number (Whole k next) = 0
-answer_number (Refused n) = n
+NodeAt ws p (Ok (k, next)) = (i : ℕ) → NodeRead ws p i (kind_number k.kind) next
+NodeAt ws p (Err n) = (i : ℕ) → node i ws ≡ refused (number_of n)

@@ -1,12 +1,10 @@
 -- What it means that nodes, and so a rule, stand in a table: at the start of two of its parts, entries and bodies.
 -- Assumes nothing.
-use Rattle.std.specs.Prelude.{◌≡◌, List, ◌++◌, ℕ, ◌+◌, ◌*◌, ◌≤◌, ℤ, length}
+use Rattle.std.specs.Prelude.{◌≡◌, List, ◌++◌, ℕ, ◌+◌, ◌≤◌, ℤ, length}
 use Rattle.rules.specs.Sum.{Sum}
 use Rattle.rules.specs.Rule.{Junction, Test, Rule, Join}
-use Rattle.rules.specs.Table.{Node, literal_node, most_words, body, count, nodes, starts, bodies, encode}
+use Rattle.rules.specs.Table.{Node, literal_node, most_words, body, nodes, starts, bodies, encode}
 use Rattle.rules.specs.Laws.{WellFormed}
-use Rattle.rules.proofs.Sizes.{weight}
-use Rattle.tables.specs.declared.sides.Side.{Side}
 
 -- the entries es begin with those of the nodes ds, and the bodies bs with theirs, where the first node has number n and
 -- its body the place p
@@ -43,14 +41,6 @@ pub record StandingJoin (es bs : List ℤ) (n p : ℕ) : Type 0 where
   pub left_side : Rule
   pub right_side : Rule
   pub stands : Stands es bs n p (Join joint left_side right_side)
-
--- where the right side is found whose join is node n at place p: its number, its place, and how many bytes behind those
--- of the join its entry and its body start
-pub record RightOf (n p : ℕ) (left : Rule) (s : Side) : Type 0 where
-  pub number_is : s.node ≡ n + (1 + count left)
-  pub place_is : s.place ≡ p + (2 + weight left)
-  pub entries_are : s.entries ≡ (1 + count left) * 4
-  pub bodies_are : s.bodies ≡ (2 + weight left) * 4
 
 -- ---- at the start of some words: a literal's body, a rule's bodies, its table
 

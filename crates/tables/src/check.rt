@@ -4,67 +4,53 @@ ghost use Rattle.rules.specs.Calls.{words, rule_of};
 ghost use Rattle.tables.specs.Reads.{arities};
 ghost use Rattle.tables.specs.Checks.{Listed, TreeAt, Judged, rest, Verdict};
 
-use crate::reading::Reading;
+use crate::extent::Extent;
+use crate::kind::Kind;
+use crate::refusal::Refusal;
 use crate::{reading, words};
 
-// A table of so many nodes, or the number that refuses it.
-#[derive(Clone, Copy)]
-pub enum Checked {
-    Table(usize),
-    Not(u32),
-}
-
-// The tree that starts some bodies takes so many nodes and so many words; or there is none.
-#[derive(Clone, Copy)]
-pub enum Tree {
-    Ends(usize, usize),
-    Broken,
-}
-
 // "per node its entry (2) and its body (3); then the table's end (2)"
-fn nodes(t: &[u8], n: usize) -> Checked
+fn nodes(t: &[u8], n: usize) -> Result<usize, Refusal>
     requires { (n + 1 ≤ length (words t.now)) × (length (words t.now) ≤ 16384) }
     ensures { Judged length (rest (words t.now) n 0 (n + 1)) result }
 {
-    let mut i: usize = 0;
     let mut place = n + 1;
-    while i < n {
+    for i in 0..n {
         if words::natural(t, i + 1) != place {
-            return Checked::Not(2);
+            return Err(Refusal::Contents);
         }
         let from = place * 4;
-        let reading = reading::read_node(&t[from..], place);
-        let Reading::Whole(_, next) = reading else {
-            return Checked::Not(reading::number(reading));
-        };
+        let (_, next) = reading::read_node(&t[from..], place)?;
         place = next;
-        i += 1;
     }
-    if place != words::count(t) {
-        return Checked::Not(2);
+    if place == words::count(t) {
+        Ok(n)
+    } else {
+        Err(Refusal::Contents)
     }
-    Checked::Table(n)
 }
 
-// How many children a node of this kind has: two of an and or an or, one of a not or a quantifier.
+// How many children a node of the kind with this number has, by branches, as `reading::width` has it and for its reason.
 pub fn children(kind: usize) -> usize
     ensures { result ≡ get_or arities kind 0 }
 {
-    if kind / 2 == 1 {
+    if kind / 2 == Kind::And as usize / 2 {
         return 2;
     }
-    if kind == 4 {
+    if kind == Kind::Not as usize {
         return 1;
     }
-    if kind / 2 == 4 {
+    if kind / 2 == Kind::ForSome as usize / 2 {
         return 1;
     }
     0
 }
 
-// The tree that starts these bodies, which are those of `left` nodes from number `node` on. It ends where its last child
-// does: behind m nodes and w words exactly one more tree is due. Only a left child is walked by a call.
-fn walk(bodies: &[u8], node: usize, left: usize) -> Tree
+// The tree that starts these bodies, which are those of `left` nodes from number `node` on; or there is none. It ends
+// where its last child does: behind m nodes and w words exactly one more tree is due. Only a left child is walked by a
+// call. The loop counts no index: a turn may pass a whole left child. By branches: a match on the number of children makes
+// the next place wait for it, and a chain of nots takes three times as long.
+fn walk(bodies: &[u8], node: usize, left: usize) -> Option<Extent>
     requires { (Listed (words bodies.now) node left) × (node + left ≤ 16384)
         × (length (words bodies.now) ≤ 16384) }
     ensures { TreeAt (words bodies.now) node left result }
@@ -74,62 +60,48 @@ fn walk(bodies: &[u8], node: usize, left: usize) -> Tree
     while m < left {
         let kind = words::natural(bodies, w);
         let children = children(kind);
-        let width = reading::width(kind);
+        let behind = w + reading::width(kind);
         if children == 0 {
-            return Tree::Ends(m + 1, w + width);
+            return Some(Extent {
+                nodes: m + 1,
+                words: behind,
+            });
         }
         if children == 1 {
             m += 1;
-            w += width;
+            w = behind;
             continue;
         }
         let right = words::natural(bodies, w + 1);
-        let behind = (w + width) * 4;
-        let first = walk(&bodies[behind..], node + m + 1, left - m - 1);
-        let Tree::Ends(k, q) = first else {
-            return first;
-        };
-        if right != node + m + 1 + k {
-            return Tree::Broken;
+        let first = walk(&bodies[behind * 4..], node + m + 1, left - m - 1)?;
+        if right != node + m + 1 + first.nodes {
+            return None;
         }
-        m += 1 + k;
-        w += width + q;
+        m += 1 + first.nodes;
+        w = behind + first.words;
     }
-    Tree::Broken
+    None
 }
 
 // The verdict of the paper on these bytes: 1; then the nodes (2, 3); then the tree (4).
-pub fn check(t: &[u8]) -> Checked
+pub fn check(t: &[u8]) -> Result<usize, Refusal>
     ensures { Verdict (rule_of t.now) result }
 {
     if t.len() % 4 != 0 {
-        return Checked::Not(1);
+        return Err(Refusal::Length);
     }
     let size = words::count(t);
-    if size == 0 {
-        return Checked::Not(1);
-    }
-    if 16384 < size {
-        return Checked::Not(1);
+    if size == 0 || words::MOST_WORDS < size {
+        return Err(Refusal::Length);
     }
     let n = words::natural(t, 0);
-    if n < 1 {
-        return Checked::Not(1);
+    if n < 1 || size <= n {
+        return Err(Refusal::Length);
     }
-    if size <= n {
-        return Checked::Not(1);
-    }
-    let read = nodes(t, n);
-    let Checked::Table(_) = read else {
-        return read;
-    };
+    nodes(t, n)?;
     let from = (n + 1) * 4;
-    let end = walk(&t[from..], 0, n);
-    let Tree::Ends(m, _) = end else {
-        return Checked::Not(4);
-    };
-    if m != n {
-        return Checked::Not(4);
+    match walk(&t[from..], 0, n) {
+        Some(tree) if tree.nodes == n => Ok(n),
+        _ => Err(Refusal::Tree),
     }
-    Checked::Table(n)
 }

@@ -2,8 +2,11 @@
 #![tactic(auto)]
 
 pub mod check;
+pub mod extent;
+pub mod kind;
+pub mod part;
 pub mod quantifiers;
 pub mod reading;
+pub mod refusal;
 pub mod settings;
-pub mod sides;
 pub mod words;

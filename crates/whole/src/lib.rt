@@ -4,7 +4,7 @@
 ghost use Rattle.whole.specs.Multiples.{GreatestCommonDivisor};
 ghost use Rattle.whole.specs.Bounded.{BoundedMultiple};
 
-// The greatest common divisor, by Euclid's algorithm; with a 0 it is the other number.
+// The greatest common divisor, by Euclid's algorithm; with a 0 it is the other number. Its rounds count no index.
 pub fn gcd(a: u32, b: u32) -> u32
     ensures { GreatestCommonDivisor a b result }
 {
@@ -18,24 +18,18 @@ pub fn gcd(a: u32, b: u32) -> u32
     x
 }
 
-// A least common multiple, or that it is over a limit.
-#[derive(Clone, Copy)]
-pub enum Multiple {
-    Least(u32),
-    OverLimit,
-}
-
-// The least common multiple if it is at most the limit; with a 0 it is 0. The product of two u32 fits a u64.
-pub fn lcm(a: u32, b: u32, limit: u32) -> Multiple
+// The least common multiple if it is at most the limit, or none; with a 0 it is 0. The product of two u32 fits a u64.
+pub fn lcm(a: u32, b: u32, limit: u32) -> Option<u32>
     ensures { BoundedMultiple a b limit result }
 {
     let g = gcd(a, b);
     if g == 0 {
-        return Multiple::Least(0);
+        return Some(0);
     }
     let m = a as u64 * (b / g) as u64;
     if m <= limit as u64 {
-        return Multiple::Least(m as u32);
+        Some(m as u32)
+    } else {
+        None
     }
-    Multiple::OverLimit
 }

@@ -13,5 +13,5 @@ overflow_mul-m c = record { fits = multiple_fits _ _ _ (omega arith) (omega arit
 pub returns-then-m-limit : goal.returns-then-m-limit
 returns-then-m-limit c = multiple_within _ c.gcd-g.ensures (omega arith)
 
-pub returns : goal.returns
-returns c = multiple_over _ c.gcd-g.ensures (omega arith)
+pub returns-else-m-limit : goal.returns-else-m-limit
+returns-else-m-limit c = multiple_over _ c.gcd-g.ensures (omega arith)

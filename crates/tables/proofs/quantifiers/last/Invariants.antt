@@ -1,4 +1,4 @@
-use mathlib.Core.Path.{◌≡◌}
+use Rattle.std.proofs.Common.{◌≡◌}
 use Rattle.rules.specs.Rule.{Rule}
 use Rattle.rules.specs.Table.{count}
 use Rattle.rules.specs.Calls.{words}
@@ -8,6 +8,3 @@ use Rattle.tables.proofs.quantifiers.last.Given as goal
 
 abbrev pub invariant-loop-i : goal.invariant-loop-i
 invariant-loop-i l = (r : Rule) → TableAt (words l.t) r → l.n ≡ count r → Sought l.i r
-
-abbrev pub decreases-loop-i : goal.decreases-loop-i
-decreases-loop-i l = l.i

@@ -1,27 +1,19 @@
--- `reading::within_limit` meets its contract. The loop keeps that the verdict on the words left is the verdict on all.
+-- `reading::within_limit` meets its contract: of 32 bits the lowest number alone lies outside.
 -- Assumes nothing.
-use mathlib.Core.Path.{refl, sym, ◌∙◌}
-use native.Mathlib.Omega.{arith}
-use Rattle.tables.proofs.Fields.{in_limit, all_seen}
+use Rattle.std.proofs.Common.{ℕ, ◌-◌, pos, get_or, refl, ◌∙◌}
+use Rattle.std.proofs.lemmas.Iterator.{YieldsList-from_range}
+use Rattle.std.proofs.lemmas.Iterator.Search.{all_from_yields_List}
+use borrow.Author.Tests.{tests}
+use borrow.Author.Rules.{rules}
+use Rattle.whole.specs.Integers.{within}
+use Rattle.rules.specs.Sum.{limit}
+use Rattle.rules.specs.Calls.{words}
+use Rattle.tables.proofs.Fields.{all_seen}
 use Rattle.tables.proofs.reading.within_limit.Goals as goal
 
-pub loop-i-init : goal.loop-i-init
-loop-i-init c = refl
-
-pub natural-requires : goal.natural-requires
-natural-requires c = omega arith
-
-pub overflow_add-i : goal.overflow_add-i
-overflow_add-i c = omega arith
-
-pub loop-i-smaller : goal.loop-i-smaller
-loop-i-smaller c = omega arith
-
-pub loop-i-preserved : goal.loop-i-preserved
-loop-i-preserved c =
-    c.loop-i.invariant
-    ∙ in_limit _ _ _ _ c.loop-i-test.true c.requires
-    c.natural.ensures.1 c.natural.ensures.0 (omega (arith, c))
-
 pub returns : goal.returns
-returns c = sym (c.loop-i.invariant ∙ all_seen _ _ _ c.loop-i-test.false)
+returns c =
+    all_from_yields_List (λ (i : ℕ). within limit (get_or (words c.args.b.now) i (pos 0))) _ _ _ c.all.ensures.ran
+    (YieldsList-from_range c.args.from c.args.to (c.args.to - c.args.from) refl refl)
+    (λ x b q k. search (rules, tests))
+    ∙ all_seen _ _ _ _ refl c.requires
