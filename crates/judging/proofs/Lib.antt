@@ -6,8 +6,8 @@ pub mod SaidLaws
 pub mod ShiftLaws
 pub mod FactorLaws
 pub mod LiteralLaws
+pub mod KindRules
 pub mod WalkLaws
 pub mod NotLaws
-pub mod JoinLaws
 pub mod SpineLaws
 pub mod JudgeLaws

@@ -6,13 +6,12 @@ use mathlib.Core.List.{List}
 use Prim.Native.Nat.{ℕ, ◌+◌, ◌%◌, ◌<◌, ◌≤◌}
 use native.Mathlib.Nat.{mod-lt}
 use native.Mathlib.Omega.{arith}
-use borrow.Author.Tests.{eqb-true, eq-eqb, ne_eqb, not-true, not-false}
-use lib.Dec.{T, eqb}
+use borrow.Author.Tests.{eq-eqb, ne_eqb, not-true, not-false}
 use lib.IntN.{ℤ, pos, negsuc, nat_abs, ◌+ℤ◌, ◌-ℤ◌, ◌*ℤ◌}
 use lib.ListN.{length, get_or}
 use lib.Signed.{mag, lt_z, nat_abs-le}
 use mir.Syntax.{w64}
-use mir.Val.{SFits, of_z}
+use mir.Val.{SFits}
 use mir.Facts.{to_z-of_z}
 use Rattle.whole.specs.Divides.{divides}
 use Rattle.whole.proofs.Ring.{rr, r2, ring}
@@ -24,11 +23,9 @@ use Rattle.rules.specs.Calls.{signed}
 use Rattle.rules.proofs.Folding.{Open}
 use Rattle.tables.proofs.Inversion.{test_kind}
 use Rattle.literals.specs.Literal.{start_of, Marked, LiteralAt}
-use Rattle.literals.specs.Changes.{becomes, InRange, Fair, changed_sum, changed_test, Settles}
-use Rattle.literals.specs.declared.change.Change.{Change}
-use Rattle.literals.specs.declared.change.Settled.{Settled}
-use Rattle.literals.specs.declared.change.Settled.TheVariants.{Yes, No}
-use Rattle.literals.proofs.Sizes.{read, again, by_bits}
+use Rattle.literals.specs.Changes.{Far, becomes, InRange, changed_sum, changed_test, Settles}
+use Rattle.std.specs.Prelude.{Option, Some, None}
+use Rattle.literals.proofs.Sizes.{read, again}
 use Rattle.literals.proofs.Tests.{positive_is, divided_is, undivided_is}
 use Rattle.literals.proofs.Literals.{literal_word, literal_start}
 use Rattle.literals.proofs.ChangeLaws.{factor_is, kept}
@@ -40,9 +37,6 @@ use Rattle.judging.proofs.ShiftLaws.{factor_moved, number_moved, moved_seven}
 
 -- ---- the test at c + f·i
 
-still : (c i : ℤ) → c ≡ c +ℤ pos 0 *ℤ i
-still = r2 _ (simp rr (ring refl))
-
 up : (c i : ℤ) → c +ℤ i ≡ c +ℤ pos 1 *ℤ i
 up = r2 _ (simp rr (ring refl))
 
@@ -53,9 +47,6 @@ module _ {c f : ℤ} (fc : SFits w64 c) (ff : SFits w64 f) (t : Test) (i : ℕ) 
   -- where f is g, and c is read from its bits
   with_factor : {g z : ℤ} → z ≡ read c +ℤ g *ℤ pos i → f ≡ g → passes t z ≡ passes t (c +ℤ f *ℤ pos i)
   with_factor at e = ap (passes t) (at ∙ ap₂ (λ (y g : ℤ). y +ℤ g *ℤ pos i) (to_z-of_z fc) (sym e))
-
-  pub passes_constant : of_z w64 f ≡ 0 → {b : Bool} → b ≡ passes t (read c) → flag b ≡ flag (passes t (c +ℤ f *ℤ pos i))
-  passes_constant e h = ap flag (h ∙ with_factor (still (read c) (pos i)) (by_bits ff e))
 
   -- one by one
   pub passes_again : flag (passes t (read c +ℤ read f *ℤ pos i)) ≡ flag (passes t (c +ℤ f *ℤ pos i))
@@ -82,39 +73,70 @@ module _ {c f : ℤ} (fc : SFits w64 c) (ff : SFits w64 f) (t : Test) (i : ℕ) 
 
 module _ (t : Test) (z : Sum) where
   -- "Divisor 1 makes kind 6 true and kind 7 false."
-  pub one_folds : {kind k : ℕ} → Marked kind k t → {b : Bool} → b ≡ divisor_one t → b ≡ true
-      → fold (Literal t z) ≡ Constant (eqb kind 6)
+  pub one_folds : {b : Bool} {k : ℕ} → t ≡ divisible b k → k ≡ 1 → fold (Literal t z) ≡ Constant b
   unfolding fold fold_literal
-  one_folds {kind} {k} m e f =
-      ap (λ (b : Bool). cond b (Constant (passes t (factor 0 z))) (Literal t z)) (always (no_factors z) (sym e ∙ f))
-      ∙ ap Constant (by t m (sym e ∙ f))
+  one_folds {b} {k} e f =
+      ap (λ (b : Bool). cond b (Constant (passes t (factor 0 z))) (Literal t z))
+      (always (no_factors z) (ap divisor_one e ∙ eq-eqb k 1 f))
+      ∙ ap Constant (ap (λ (t : Test). passes t (factor 0 z)) e ∙ by b)
     where
       always : (a : Bool) → divisor_one t ≡ true → (a || divisor_one t) ≡ true
       always true e = refl
       always false e = e
 
-      by_one : (d : ℕ) → eqb d 1 ≡ true → divides d (factor 0 z) ≡ true
-      by_one d e =
-          eq-eqb (nat_abs (factor 0 z) % d) 0
-          (let one = eqb-true d 1 e in let h = mod-lt (nat_abs (factor 0 z)) {m = d} (omega arith) in omega arith)
+      by_one : divides k (factor 0 z) ≡ true
+      by_one =
+          eq-eqb (nat_abs (factor 0 z) % k) 0
+          (let h = mod-lt (nat_abs (factor 0 z)) {m = k} (omega arith) in omega arith)
 
-      by : (t : Test) → Marked kind k t → divisor_one t ≡ true → passes t (factor 0 z) ≡ eqb kind 6
-      by positive m e = absurd (subst T (sym e) tt)
-      by (divisible true d) m e = by_one d e ∙ sym (eq-eqb kind 6 m.same_kind)
-      by (divisible false d) m e =
-          ap not (by_one d e) ∙ sym (ne_eqb kind 6 (λ p. omega (arith, m.same_kind)))
-      by is_zero m e = absurd (subst T (sym e) tt)
+      by : (b : Bool) → passes (divisible b k) (factor 0 z) ≡ b
+      by true = by_one
+      by false = ap not by_one
 
   -- "A literal whose a's are all zero becomes its truth value."
   pub bare_folds : no_factors z ≡ true → fold (Literal t z) ≡ Constant (passes t (factor 0 z))
   unfolding fold fold_literal
   bare_folds e = ap (λ (b : Bool). cond (b || divisor_one t) (Constant (passes t (factor 0 z))) (Literal t z)) e
 
-  pub open_folds : no_factors z ≡ false → {b : Bool} → b ≡ divisor_one t → b ≡ false → Open (fold (Literal t z))
+  pub open_folds : no_factors z ≡ false → divisor_one t ≡ false → Open (fold (Literal t z))
   unfolding fold fold_literal
-  open_folds e f g =
+  open_folds e f =
       subst Open
-      (sym (ap₂ (λ (a b : Bool). cond (a || b) (Constant (passes t (factor 0 z))) (Literal t z)) e (sym f ∙ g))) tt
+      (sym (ap₂ (λ (a b : Bool). cond (a || b) (Constant (passes t (factor 0 z))) (Literal t z)) e f)) tt
+
+-- ---- divisor 1
+
+module _ {kind k : ℕ} (t : Test) (m : Marked kind k t) where
+  pub divisible_test : (b : Bool) → kind ≡ test_kind (divisible b k) → t ≡ divisible b k
+  divisible_test b e = by t m b e
+    where
+      by : (t : Test) → Marked kind k t → (b : Bool) → kind ≡ test_kind (divisible b k) → t ≡ divisible b k
+      by positive m true e = absurd (omega (arith, m.same_kind))
+      by positive m false e = absurd (omega (arith, m.same_kind))
+      by (divisible true d) m true e = ap (divisible true) (sym m.same_divisor)
+      by (divisible true d) m false e = absurd (omega (arith, m.same_kind))
+      by (divisible false d) m true e = absurd (omega (arith, m.same_kind))
+      by (divisible false d) m false e = ap (divisible false) (sym m.same_divisor)
+      by is_zero m true e = absurd (omega (arith, m.same_kind))
+      by is_zero m false e = absurd (omega (arith, m.same_kind))
+
+  -- another divisor, or a kind that has none
+  pub other_divisor : ¬ (k ≡ 1) → divisor_one t ≡ false
+  other_divisor n = by t m
+    where
+      by : (t : Test) → Marked kind k t → divisor_one t ≡ false
+      by positive m = refl
+      by (divisible b d) m = ne_eqb d 1 (λ e. n (m.same_divisor ∙ e))
+      by is_zero m = refl
+
+  pub no_divisor : ¬ (kind ≡ 6) → ¬ (kind ≡ 7) → divisor_one t ≡ false
+  no_divisor n6 n7 = by t m
+    where
+      by : (t : Test) → Marked kind k t → divisor_one t ≡ false
+      by positive m = refl
+      by (divisible true d) m = absurd (n6 m.same_kind)
+      by (divisible false d) m = absurd (n7 m.same_kind)
+      by is_zero m = refl
 
 -- ---- T at x = w + k
 
@@ -149,11 +171,11 @@ module _ {ws : List ℤ} {n x at : ℕ} {t : Test} {s w v : Sum} {f : ℤ} (l : 
       ∙ sym (number_moved x k w s setting.0)
 
   -- a setting is left, or none
-  pub varying_says : {r b : Bool} {ys ns : ℕ}
+  pub varying_says : {r : Bool} {ys ns : ℕ}
       → ((z : Sum) → Moves ws at (read f) v z → r ≡ not (no_factors z)) → r ≡ true
-      → b ≡ divisor_one t → b ≡ false → (bit ys k ≡ 0) × (bit ns k ≡ 0) → Says ys ns k (Literal t put_in)
-  varying_says varies e d other bits =
-      says_open bits (open_folds t put_in (not-true (no_factors put_in) (sym (varies put_in moves) ∙ e)) d other)
+      → divisor_one t ≡ false → (bit ys k ≡ 0) × (bit ns k ≡ 0) → Says ys ns k (Literal t put_in)
+  varying_says varies e other bits =
+      says_open bits (open_folds t put_in (not-true (no_factors put_in) (sym (varies put_in moves) ∙ e)) other)
 
   pub settled_says : {r : Bool} {ys ns : ℕ} {c : ℤ}
       → ((z : Sum) → Moves ws at (read f) v z → r ≡ not (no_factors z)) → r ≡ false
@@ -179,30 +201,22 @@ module _ {ws : List ℤ} {x : ℕ} {v : Sum} (some : SomeMoved ws x v) {kind at 
 
 -- ---- the far-left body, and the full one
 
-pub put_fair : (far : Bool) (x : ℕ) {q : Change} → InRange x → q ≡ put_into far x → Fair q
-put_fair far x h e = subst Fair (sym e) (by far)
-  where
-    by : (far : Bool) → Fair (put_into far x)
-    by true = unfold put_into Fair in h
-    by false = unfold put_into Fair in h
+module _ (far : Bool) (x : ℕ) (t : Test) (s : Sum) (u : Sum) where
+  far_is : far ≡ true → becomes (put_into far x) u t s ≡ becomes (Far x) u t s
+  far_is is = unfold put_into in ap (λ (b : Bool). becomes (put_into b x) u t s) is
 
-module _ (far : Bool) (x : ℕ) {q : Change} (is : q ≡ put_into far x) (t : Test) (s : Sum) {r : Settled}
-    (settles : Settles q t s r) (u : Sum) where
-  pub value_folds : {v : Bool} → r ≡ Yes v → fold (becomes (put_into far x) u t s) ≡ Constant v
-  unfolding Settles fold
-  value_folds {v} e =
-      ap fold (ap (λ (q : Change). becomes q u t s) (sym is) ∙ subst (Settles q t s) e settles u)
+  module _ (is : far ≡ true) {r : Option Bool} (settles : Settles (Far x) t s r) where
+    pub value_folds : {v : Bool} → r ≡ Some v → fold (becomes (put_into far x) u t s) ≡ Constant v
+    unfolding Settles fold
+    value_folds e = ap fold (far_is is ∙ subst (Settles (Far x) t s) e settles u)
 
-  pub literal_kept : r ≡ No → Literal t (sum_at x u s) ≡ becomes (put_into far x) u t s
-  literal_kept e =
-      sym (ap (λ (q : Change). becomes q u t s) (sym is) ∙ kept q t s settles u e
-      ∙ ap (λ (q : Change). Literal (changed_test q s t) (changed_sum q u s)) is ∙ by far)
-    where
-      by : (far : Bool) → Literal (changed_test (put_into far x) s t) (changed_sum (put_into far x) u s)
-          ≡ Literal t (sum_at x u s)
-      by true = unfold put_into changed_test changed_sum in refl
-      by false = unfold put_into changed_test changed_sum in refl
+    pub far_kept : {ys ns k : ℕ} → r ≡ None → Says ys ns k (Literal t (sum_at x u s))
+        → Says ys ns k (becomes (put_into far x) u t s)
+    unfolding changed_test changed_sum
+    far_kept {ys} {ns} {k} e h = subst (Says ys ns k) (sym (far_is is ∙ kept (Far x) t s settles u e)) h
 
-  pub kept_says : {ys ns k : ℕ} → r ≡ No → Says ys ns k (Literal t (sum_at x u s))
+  pub full_kept : {ys ns k : ℕ} → far ≡ false → Says ys ns k (Literal t (sum_at x u s))
       → Says ys ns k (becomes (put_into far x) u t s)
-  kept_says {ys} {ns} {k} e h = subst (Says ys ns k) (literal_kept e) h
+  unfolding becomes put_into
+  full_kept {ys} {ns} {k} is h =
+      subst (Says ys ns k) (sym (ap (λ (b : Bool). becomes (put_into b x) u t s) is)) h

@@ -2,27 +2,26 @@
 -- Assumes nothing.
 use mathlib.Core.Path.{◌≡◌, refl, sym, ap, ap₂, ◌∙◌, subst}
 use mathlib.Core.Bool.{Bool, true, false}
-use Prim.Native.Nat.{ℕ, suc, ◌+◌, ◌-◌, ◌*◌, ◌/◌, ◌%◌, ◌^◌, ◌<◌, ◌≤◌}
+use Prim.Native.Nat.{ℕ, zero, suc, ◌+◌, ◌-◌, ◌*◌, ◌/◌, ◌%◌, ◌^◌, ◌<◌, ◌≤◌}
 use native.Mathlib.Nat.{mod-lt, mod-eq_of_lt, mul-add-mod_self_right, mul-mod_left, div-add-mod, div-add-mod'}
 use native.Mathlib.Omega.{arith}
 use borrow.Author.Tests.{ltb-true, ltb-false, ne_eqb}
 use lib.Bits.{bit_or}
-use lib.Dec.{T, eqb, ltb, eqb→eq, ltb→lt}
-use lib.IntN.{ℤ, pos, negsuc, neg_ℤ, nat_abs, ◌+ℤ◌, ◌-ℤ◌}
-use lib.Signed.{◌<ℤ◌, ◌≤ℤ◌, lt_z, lt_z_yes, lt_z_no, non_neg, yes_non_neg, pos-nat_abs, rem_z}
+use lib.Dec.{T, eqb, ltb, eqb→eq}
+use lib.IntN.{ℤ, pos, negsuc, neg_ℤ, nat_abs, ◌+ℤ◌, ◌-ℤ◌, +ℤ_idl}
 use mir.Syntax.{w64}
-use mir.Val.{SFits, Fits, to_z}
+use mir.Val.{SFits, to_z}
 use mir.Facts.{to_z-of_z, to_z_pos}
+use Rattle.std.specs.Int.{int_rem_euclid}
 use Rattle.whole.proofs.Tests.{same_truth}
 use Rattle.whole.specs.Divides.{Divides, divides}
 use Rattle.whole.proofs.Linear.{zarith, sum, dif, neg}
-use Rattle.whole.proofs.Divisibility.{divides_self, divides_add, divides_neg, divides_shift, divides_test, size_neg}
+use Rattle.whole.proofs.Divisibility.{divides_add, divides_neg, divides_shift, divides_test, size_neg}
 use Rattle.rules.specs.Sum.{limit}
-use Rattle.literals.proofs.Sizes.{read, size_less, fits_size}
+use Rattle.literals.proofs.Sizes.{read, fits_size}
 use Rattle.judging.specs.Judging.{bit, flag}
 use Rattle.judging.specs.Masks.{Mask, Placed}
 use Rattle.judging.proofs.BitLaws.{bit_of_or, bit_one, bit_moved}
-use Rattle.judging.proofs.MaskLaws.{is_yes, is_no}
 
 -- ---- the multiples among the first 64 numbers
 
@@ -76,90 +75,40 @@ module _ (d m w : ℕ) (s : Doubled d m w) where
 -- ---- how far it is to the next multiple
 
 module _ {d : ℕ} (low : 1 ≤ d) where
-  rest_size : (c : ℤ) → nat_abs (rem_z c (pos d)) < d
-  rest_size (pos n) = mod-lt n low
-  rest_size (negsuc n) = omega (arith, size_neg (pos (suc n % d)), mod-lt (suc n) {m = d} low)
-
   rest_over : (n : ℕ) → Divides d (pos n -ℤ pos (n % d))
   rest_over n = record { quotient = pos (n / d); exact = law n (d * (n / d)) (n % d) (div-add-mod n d) }
     where
       law : (n q m : ℕ) → q + m ≡ n → pos n -ℤ pos m ≡ pos q
       law n q m e = omega (zarith, dif (pos n) (pos m))
 
-  rest_divides : (c : ℤ) → Divides d (c -ℤ rem_z c (pos d))
-  rest_divides (pos n) = rest_over n
-  rest_divides (negsuc n) = subst (Divides d) (law (suc n % d)) (divides_neg (rest_over (suc n)))
+  -- the rest of −c is how far it is up to the next multiple
+  rest_up : (c : ℤ) → (m : ℕ) × (int_rem_euclid (neg_ℤ c) (pos d) ≡ pos m) × (m < d) × Divides d (c +ℤ pos m)
+  rest_up (pos zero) =
+      (0 % d, refl, mod-lt 0 low, record { quotient = pos 0; exact = ap pos (omega (arith, div-add-mod 0 d)) })
+  rest_up (pos (suc n)) = (
+    d - 1 - n % d,
+    refl,
+    omega arith,
+    record { quotient = pos (n / d + 1); exact = ap pos (omega (arith, div-add-mod n d, mod-lt n low)) },
+  )
+  rest_up (negsuc n) =
+      (suc n % d, refl, mod-lt (suc n) low, subst (Divides d) (law (suc n % d)) (divides_neg (rest_over (suc n))))
     where
-      law : (m : ℕ) → neg_ℤ (pos (suc n) -ℤ pos m) ≡ negsuc n -ℤ neg_ℤ (pos m)
-      law m =
-          omega (
-            zarith,
-            neg (pos (suc n) -ℤ pos m),
-            dif (pos (suc n)) (pos m),
-            dif (negsuc n) (neg_ℤ (pos m)),
-            neg (pos m),
-          )
+      law : (m : ℕ) → neg_ℤ (pos (suc n) -ℤ pos m) ≡ negsuc n +ℤ pos m
+      law m = omega (zarith, neg (pos (suc n) -ℤ pos m), dif (pos (suc n)) (pos m), sum (negsuc n) (pos m))
 
-  pub rest_read : (c : ℤ) → SFits w64 c → d ≤ limit → read (rem_z (read c) (to_z w64 d)) ≡ rem_z c (pos d)
-  rest_read c f high =
-      ap₂ (λ (a b : ℤ). read (rem_z a b)) (to_z-of_z f) (to_z_pos w64 (omega arith))
-      ∙ to_z-of_z (fits_size w64 (rem_z c (pos d)) (omega (arith, rest_size c)))
-
-  module _ (c r : ℤ) (rest : r ≡ rem_z c (pos d)) where
-    over : Divides d (c -ℤ r)
-    over = subst (λ (z : ℤ). Divides d (c -ℤ z)) (sym rest) (rest_divides c)
-
-    size : nat_abs r < d
-    size = subst (λ (z : ℤ). nat_abs z < d) (sym rest) (rest_size c)
-
-    -- a positive rest
-    pub rest_casts : d ≤ limit → lt_z (pos 0) r ≡ true → T (non_neg r) × Fits w64 (nat_abs r)
-    rest_casts high e = (positive r (lt_z_yes {a = pos 0} {b = r} (is_yes e)), record { fits = omega (arith, size) })
-      where
-        positive : (z : ℤ) → pos 0 <ℤ z → T (non_neg z)
-        positive z h = yes_non_neg {z = z} (omega zarith)
-
-    pub rest_less : nat_abs r ≤ d
-    rest_less = omega (arith, size)
-
-    pub distance_up : lt_z (pos 0) r ≡ true → (d - nat_abs r < d) × Divides d (c +ℤ pos (d - nat_abs r))
-    distance_up e =
-        let h : pos 0 <ℤ r = lt_z_yes (is_yes e) in
-        let s = size in
-        (some r h s, subst (Divides d) (law r h s) (divides_add over divides_self))
-      where
-        some : (r : ℤ) → pos 0 <ℤ r → nat_abs r < d → d - nat_abs r < d
-        some (pos m) h s = omega (arith, ltb→lt 0 m h.lt)
-        some (negsuc m) h s = absurd h.lt
-
-        law : (r : ℤ) → pos 0 <ℤ r → nat_abs r < d → c -ℤ r +ℤ pos d ≡ c +ℤ pos (d - nat_abs r)
-        law (pos m) h s = omega (zarith, sum (c -ℤ pos m) (pos d), dif c (pos m), sum c (pos (d - m)))
-        law (negsuc m) h s = absurd h.lt
-
-    -- none, or a negative one
-    module _ (high : d ≤ limit) (e : lt_z (pos 0) r ≡ false) where
-      down : r ≤ℤ pos 0
-      down = lt_z_no {a = pos 0} {b = r} (is_no e)
-
-      pub turned_fits : SFits w64 (pos 0 -ℤ r)
-      turned_fits = fits_size w64 (pos 0 -ℤ r) (omega (arith, size_less (pos 0) r, size))
-
-      above_zero : T (non_neg (pos 0 -ℤ r))
-      above_zero = let h = down in yes_non_neg {z = pos 0 -ℤ r} (omega (zarith, dif (pos 0) r))
-
-      pub turned_casts : T (non_neg (read (pos 0 -ℤ r))) × Fits w64 (nat_abs (read (pos 0 -ℤ r)))
-      turned_casts =
-          rw (to_z-of_z turned_fits)
-          (above_zero, record { fits = omega (arith, size_less (pos 0) r, size) })
-
-      pub distance_down : (nat_abs (read (pos 0 -ℤ r)) < d) × Divides d (c +ℤ pos (nat_abs (read (pos 0 -ℤ r))))
-      distance_down = rw (to_z-of_z turned_fits) (
-        omega (arith, size_less (pos 0) r, size),
-        subst (Divides d) (law (pos-nat_abs (pos 0 -ℤ r) above_zero)) over,
-      )
-        where
-          law : {m : ℕ} → pos m ≡ pos 0 -ℤ r → c -ℤ r ≡ c +ℤ pos m
-          law {m} e = omega (zarith, dif c r, sum c (pos m), dif (pos 0) r)
+  pub distance_is : (c : ℤ) → SFits w64 c → nat_abs c < 2 ^ 63 → d ≤ limit → {r : ℤ}
+      → r ≡ int_rem_euclid (read (pos 0 -ℤ read c)) (to_z w64 d)
+      → (nat_abs (read r) < d) × Divides d (c +ℤ pos (nat_abs (read r)))
+  distance_is c f small high {r} e =
+      let (m, is, less, up) = rest_up c in
+      let back : nat_abs (read r) ≡ m =
+      ap (λ (z : ℤ). nat_abs (read z)) (e ∙ ap₂ int_rem_euclid turned (to_z_pos w64 (omega arith)) ∙ is)
+      ∙ ap nat_abs (to_z-of_z (fits_size w64 (pos m) (omega arith))) in
+      rw back (less, up)
+    where
+      turned : read (pos 0 -ℤ read c) ≡ neg_ℤ c
+      turned = rw (to_z-of_z f, +ℤ_idl (neg_ℤ c)) (to_z-of_z (fits_size w64 (neg_ℤ c) (rw (size_neg c) small)))
 
 -- ---- the multiples, moved to the first
 

@@ -4,32 +4,38 @@
 use mathlib.Core.Path.{◌≡◌, refl, sym, ap, ◌∙◌, subst}
 use mathlib.Core.Bool.{Bool, true, false, not, cond}
 use mathlib.Core.List.{List}
-use Prim.Native.Nat.{ℕ, zero, suc, ◌+◌, ◌*◌, ◌%◌, ◌<◌, ◌≤◌}
+use Prim.Native.Nat.{ℕ, zero, suc, ◌+◌, ◌%◌, ◌<◌, ◌≤◌}
 use native.Mathlib.Omega.{arith}
 use borrow.Author.Tests.{eqb-true, eqb-false, eq-eqb, ne_eqb}
 use lib.Dec.{eqb}
 use lib.IntN.{ℤ, pos}
-use lib.ListN.{length, get_or, drop}
+use lib.ListN.{length, get_or, drop, length-drop}
 use lib.Seq.{get_or-drop, drop-drop}
 use Rattle.rules.specs.Sum.{Sum, add, number}
 use Rattle.rules.specs.Rule.{and, or, Test, Rule, Constant, Join, Not, Literal, Bind}
-use Rattle.rules.specs.Table.{count}
+use Rattle.rules.specs.Table.{count, most_words}
 use Rattle.rules.specs.Literals.{map_literals}
 use Rattle.rules.specs.Laws.{Each, WellFormed}
 use Rattle.rules.specs.Calls.{signed, words}
 use Rattle.rules.proofs.Sizes.{weight, weight_pos}
 use Rattle.tables.specs.Standing.{Stands}
-use Rattle.tables.proofs.WordLaws.{words_length}
+use Rattle.tables.specs.Parts.{RuleIn, Behind, SideIn}
+use Rattle.tables.specs.declared.part.Part.{Part}
 use Rattle.tables.proofs.Standings.{under_not, inside_entries, inside_bodies}
-use Rattle.tables.proofs.Parts.{moved, bytes_from, part_shorter, stands_part}
+use Rattle.tables.proofs.Parts.{moved}
+use Rattle.tables.proofs.PartSides.{behind_it}
 use Rattle.tables.proofs.KindLaws.{literal_kinds, bind_kinds}
 use Rattle.tables.proofs.Inversion.{Shape, shape, constant, join, negation, literal, bind}
 use Rattle.literals.specs.Changes.{becomes}
 use Rattle.judging.specs.Judging.{Says, put_into, at_sum}
-use Rattle.judging.specs.Walks.{nots, SomeStands}
+use Rattle.judging.specs.Walks.{nots, SomeStands, Walking, SomeWalking, Judges}
 use Rattle.judging.specs.declared.answers.Judged.{Judged}
+use Rattle.tables.specs.Kinds.{Kinded, kind_of}
+use Rattle.tables.proofs.RootKinds.{root_kinded}
+use Rattle.tables.specs.declared.kind.Kind.{Kind}
+use Rattle.tables.specs.declared.kind.Kind.TheVariants as kinds
+use Rattle.judging.proofs.KindRules.{not_rule}
 use Rattle.judging.proofs.SaidLaws.{says_not}
-use Rattle.judging.proofs.WalkLaws.{Call, WalkingFor, SomeFor, JudgesFor, further, walking_part, Kinded}
 
 -- ---- where it stands
 
@@ -56,6 +62,22 @@ first_four a e s = by a (shape 4 e a s)
     by a (negation x i z) = omega arith
     by a (literal t s i z) = absurd (omega (arith, i, literal_kinds t))
     by a (bind q v x i w z) = absurd (omega (arith, i, bind_kinds q))
+
+-- the words of the nots, and the one behind them, are kinds
+pub nots_kinded : {es bs : List ℤ} {n p : ℕ} (i : ℕ) (a : Rule) → i ≤ nots a → Stands es bs n p a → Kinded bs i
+unfolding nots
+nots_kinded zero a h s = root_kinded a s
+nots_kinded (suc i) (Constant b) h s = absurd (omega arith)
+nots_kinded (suc i) (Join j x y) h s = absurd (omega arith)
+nots_kinded {es} {bs} (suc i) (Not x) h s =
+    let under = nots_kinded {es = drop 1 es} i x (omega arith) (under_not x s) in
+    record {
+      there = omega (arith, under.there, length-drop 1 bs);
+      kind = under.kind;
+      numbered = sym (at_drop bs i) ∙ under.numbered;
+    }
+nots_kinded (suc i) (Literal t z) h s = absurd (omega arith)
+nots_kinded (suc i) (Bind q v x) h s = absurd (omega arith)
 
 -- where a not stands, 4 does; behind the last one, something else
 pub more_nots : {es bs : List ℤ} {n p : ℕ} (i : ℕ) (a : Rule) → i ≤ nots a → get_or bs i (pos 0) ≡ signed 4
@@ -176,76 +198,82 @@ module _ (ys ns k : ℕ) (g : Test → Sum → Rule) where
 
 -- ---- the walk passes them by one call
 
--- n of them are found
-pub record NotsFound (q : Call) (k n : ℕ) : Type 0 where
-  pub kinded : Kinded q k
-  pub four : k ≡ 4
-  pub found : (es : List ℤ) (m p : ℕ) (a : Rule) → Stands es (words q.bodies) m p a → n ≡ nots a
+module _ {p : Part} {x : ℕ} {v : Sum} (some : SomeWalking p x v) where
+  pub nots_asks : SomeStands (words p.bodies.now)
+  nots_asks = record {
+    entries = words p.entries.now;
+    number = p.node;
+    place = p.place;
+    rule = some.rule;
+    stands = some.walking.at.stands;
+    few = omega (arith, some.walking.at.few.few_words);
+  }
 
-pub nots_asks : (q : Call) → SomeFor q → SomeStands (words q.bodies)
-nots_asks q some = record {
-  entries = words q.entries;
-  number = q.node;
-  place = q.place;
-  rule = some.rule;
-  stands = some.walking.at.stands;
-  few = omega (arith, some.walking.at.few.few_words);
+some_nots : (a : Rule) → 1 ≤ nots (Not a)
+unfolding nots
+some_nots a = omega arith
+
+-- n of them are found
+pub record NotsFound (p : Part) (x : ℕ) (v : Sum) (n : ℕ) : Type 0 where
+  pub some : SomeWalking p x v
+  pub is_not : (a : Rule) → RuleIn p a → (b : Rule) × (a ≡ Not b)
+  pub found : (es : List ℤ) (m q : ℕ) (a : Rule) → Stands es (words p.bodies.now) m q a → n ≡ nots a
+
+pub nots_run : {p : Part} {x n : ℕ} {v : Sum} (k : Kind) → SomeWalking p x v
+    → ((a : Rule) → RuleIn p a → k ≡ kind_of a) → k ≡ kinds.Not
+    → ((es : List ℤ) (m q : ℕ) (a : Rule) → Stands es (words p.bodies.now) m q a → n ≡ nots a) → NotsFound p x v n
+nots_run k some read is found = record {
+  some = some;
+  is_not = λ a at. not_rule k a (read a at) is;
+  found = found;
 }
 
-module _ {q : Call} {k n : ℕ} (run : NotsFound q k n) where
-  counted : (a : Rule) → WalkingFor q a → n ≡ nots a
-  counted a h = run.found _ _ _ a h.at.stands
+module _ {p : Part} {x n : ℕ} {v : Sum} (run : NotsFound p x v n) where
+  counted : (a : Rule) → RuleIn p a → n ≡ nots a
+  counted a at = run.found _ _ _ a at.stands
 
-  inside : (n < length (words q.entries)) × (n < length (words q.bodies))
+  inside : (n < length (words p.entries.now)) × (n < length (words p.bodies.now))
   inside =
-      let some = run.kinded.some in
-      let e = counted some.rule some.walking in
-      let (low, lows) = nots_inside some.rule some.walking.at.stands in
+      let e = counted run.some.rule run.some.walking.at in
+      let (low, lows) = nots_inside run.some.rule run.some.walking.at.stands in
       (omega arith, omega arith)
 
-  pub entries_there : n * 4 ≤ length q.entries
-  entries_there = omega (arith, inside.0, words_length q.entries)
+  positive : 0 < n
+  positive =
+      let (b, e) = run.is_not run.some.rule run.some.walking.at in
+      omega (arith, counted run.some.rule run.some.walking.at, ap nots e, some_nots b)
 
-  pub bodies_there : n * 4 ≤ length q.bodies
-  bodies_there = omega (arith, inside.1, words_length q.bodies)
-
-  pub run_small : (n ≤ 16384) × (q.node + n ≤ 16384) × (q.place + n ≤ 16384)
-  run_small =
-      let few = run.kinded.some.walking.at.few in
+  pub behind_asks : (n ≤ length (words p.entries.now)) × (n ≤ length (words p.bodies.now))
+      × (p.node + n ≤ most_words) × (p.place + n ≤ most_words)
+  behind_asks =
+      let few = run.some.walking.at.few in
       let (low, lows) = inside in
-      (omega (arith, few.few_nodes), omega (arith, few.few_nodes), omega (arith, few.few_words))
+      (omega arith, omega arith, omega (arith, few.few_nodes), omega (arith, few.few_words))
 
-  pub run_shorter : length (bytes_from q.entries (n * 4)) < length q.entries
-  run_shorter =
-      let some = run.kinded.some in
-      let first = run.kinded.first ∙ ap signed run.four in
-      part_shorter q.entries n
-      (omega (arith, counted some.rule some.walking, first_four some.rule first some.walking.at.stands))
-      (omega (arith, inside.0))
+  module _ {q : Part} (behind : Behind p n n q) where
+    bare_in : (a : Rule) → RuleIn p a → SideIn p n n (bare a) q
+    bare_in a at =
+        let there = subst (λ (m : ℕ). Stands (drop m (words p.entries.now)) (drop m (words p.bodies.now))
+        (p.node + m) (p.place + m) (bare a)) (sym (counted a at)) (bare_stands a at.stands) in
+        behind_it (bare a) at.few there (bare_formed a at.formed) positive inside.0 (omega (arith, inside.1)) behind
 
-  under : (a : Rule) → WalkingFor q a → WalkingFor (further q (n * 4) (n * 4) (q.node + n) (q.place + n)) (bare a)
-  under a h =
-      let e = counted a h in
-      let behind = subst (λ (m : ℕ). Stands (drop m (words q.entries)) (drop m (words q.bodies))
-      (q.node + m) (q.place + m) (bare a)) (sym e) (bare_stands a h.at.stands) in
-      walking_part q n n a (bare a) h (omega (arith, inside.0)) (omega (arith, inside.1))
-      (bare_formed a h.at.formed)
-      (stands_part q.entries q.bodies n n (q.node + n) (q.place + n) (bare a) behind)
+    under : (a : Rule) → Walking p x v a → Walking q x v (bare a)
+    under a h = record { at = (bare_in a h.at).at; setting = h.setting; shift = h.shift }
 
-  pub under_asks : SomeFor (further q (n * 4) (n * 4) (q.node + n) (q.place + n))
-  under_asks =
-      let some = run.kinded.some in
-      record { rule = bare some.rule; walking = under some.rule some.walking }
+    pub under_asks : SomeWalking q x v
+    under_asks = record { rule = bare run.some.rule; walking = under run.some.rule run.some.walking }
 
-  pub run_says : (r o : Judged) → JudgesFor (further q (n * 4) (n * 4) (q.node + n) (q.place + n)) r.yes r.no
-      → (eqb (n % 2) 1 ≡ true → (o.yes ≡ r.no) × (o.no ≡ r.yes)) × (eqb (n % 2) 1 ≡ false → o ≡ r)
-      → JudgesFor q o.yes o.no
-  run_says r o inner turned a w i h shifted less =
-      up (inner (bare a) w i (under a h) shifted less)
-    where
-      up : Says r.yes r.no i (at_sum q.far q.x w i (bare a))
-          → Says o.yes o.no i (at_sum q.far q.x w i a)
-      up s = unfold at_sum in
-          turned_says r.yes r.no i (becomes (put_into q.far q.x) (add w (number (pos i)))) a
-          (counted a h) turned.0
-          (λ e. (ap (λ (j : Judged). j.yes) (turned.1 e), ap (λ (j : Judged). j.no) (turned.1 e))) s
+    pub under_shorter : length (words q.entries.now) < length (words p.entries.now)
+    under_shorter = (bare_in run.some.rule run.some.walking.at).shorter
+
+    pub run_says : (far : Bool) (r o : Judged) → Judges q far x v r.yes r.no
+        → (eqb (n % 2) 1 ≡ true → (o.yes ≡ r.no) × (o.no ≡ r.yes)) × (eqb (n % 2) 1 ≡ false → o ≡ r)
+        → Judges p far x v o.yes o.no
+    run_says far r o inner turned a w i h shifted less =
+        up (inner (bare a) w i (under a h) shifted less)
+      where
+        up : Says r.yes r.no i (at_sum far x w i (bare a)) → Says o.yes o.no i (at_sum far x w i a)
+        up s = unfold at_sum in
+            turned_says r.yes r.no i (becomes (put_into far x) (add w (number (pos i)))) a
+            (counted a h.at) turned.0
+            (λ e. (ap (λ (j : Judged). j.yes) (turned.1 e), ap (λ (j : Judged). j.no) (turned.1 e))) s

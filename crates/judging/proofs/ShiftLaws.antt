@@ -5,11 +5,12 @@ use mathlib.Core.Bool.{Bool, true, false, cond}
 use mathlib.Core.List.{[], ◌∷◌}
 use Prim.Native.Nat.{ℕ, zero, suc, ◌+◌, ◌<◌, ◌≤◌}
 use native.Mathlib.Omega.{arith}
-use borrow.Author.Tests.{eq-eqb, ne_eqb}
-use lib.Dec.{T, eqb, eqb→eq, le→leb}
+use borrow.Author.Tests.{eq-eqb, ne_eqb, eqb-true, eqb-false}
+use lib.Dec.{T, lit<, eqb, eqb→eq, le→leb}
 use lib.IntN.{ℤ, pos, negsuc, nat_abs, ◌+ℤ◌, ◌-ℤ◌, ◌*ℤ◌, +ℤ_idr, +ℤ_assoc}
-use lib.ListN.{length, get_or}
-use lib.Seq.{ext_get_or}
+use Rattle.std.proofs.Common.{◌≢◌, length-set}
+use lib.ListN.{length, get_or, set}
+use lib.Seq.{ext_get_or, get_or-set_same, get_or-set_other}
 use mir.Syntax.{w64}
 use mir.Val.{SFits, to_z}
 use mir.Facts.{to_z-of_z, to_z_pos}
@@ -20,10 +21,10 @@ use Rattle.rules.specs.Sum.{Sum, factor, add, scale, negate, put, number, settin
 use Rattle.rules.specs.Steps.{sum_at}
 use Rattle.rules.specs.Eliminate.{most_period}
 use Rattle.rules.proofs.Sums.{factor_scale, factor_add, number_factor, length_scale, length_add, length_put}
-use Rattle.literals.specs.Rows.{row_word, most_put}
+use Rattle.literals.specs.Rows.{most_put}
 use Rattle.literals.specs.Changes.{InRange}
 use Rattle.literals.proofs.ChangeLaws.{put_word, put_in_word, sum_at_seven}
-use Rattle.literals.proofs.Sizes.{read, again, size_add, size_less, fits_size}
+use Rattle.literals.proofs.Sizes.{read, size_add, size_less, fits_size}
 use Rattle.literals.proofs.Sevens.{within_at}
 use Rattle.judging.specs.Judging.{Sized}
 use Rattle.judging.specs.Shifts.{less}
@@ -70,8 +71,7 @@ module _ (x k : ℕ) (w s : Sum) where
 
   at_word : (i : ℕ) → factor i (sum_at x (add w (number (pos k))) s)
       ≡ cond (eqb i x) (pos 0) (factor i s) +ℤ factor x s *ℤ factor i (add w (number (pos k)))
-  unfolding row_word
-  at_word i = put_in_word (add w (number (pos k))) s i x
+  at_word i = put_in_word s i x (add w (number (pos k)))
 
   pub factor_moved : (i : ℕ) → 1 ≤ i → factor i (sum_at x (add w (number (pos k))) s)
       ≡ factor i s +ℤ factor x s *ℤ factor i (less x w)
@@ -207,22 +207,82 @@ module _ {u : Sum} {j x i : ℕ} (pre : Sized limit u × (j ≤ most_period) × 
     omega (arith, ap nat_abs (to_z-of_z fa), size),
   )
 
--- ---- the size of the seven, as an array holds them
+-- ---- the seven, as they are written
 
-within_more : (n : ℕ) (z : ℤ) (zs : Sum) → SFits w64 z → nat_abs z ≤ n → T (all_within n zs)
-    → T (all_within n (read z ∷ zs))
+within_each : (n : ℕ) (zs : Sum) → ((i : ℕ) → i < length zs → nat_abs (get_or zs i (pos 0)) ≤ n) → T (all_within n zs)
 unfolding all_within
-within_more n z zs f h t =
-    (T_and (within n (read z)) (all_within n zs)).1 (le→leb (nat_abs (read z)) n (again w64 f h), t)
+within_each n [] h = tt
+within_each n (z ∷ zs) h =
+    (T_and (within n z) (all_within n zs)).1
+    (le→leb (nat_abs z) n (h 0 (omega arith)), within_each n zs (λ i k. h (suc i) (omega arith)))
 
-pub seven_within : {n : ℕ} {a b c d e f g : ℤ}
-    → SFits w64 a → SFits w64 b → SFits w64 c → SFits w64 d → SFits w64 e → SFits w64 f → SFits w64 g
-    → nat_abs a ≤ n → nat_abs b ≤ n → nat_abs c ≤ n → nat_abs d ≤ n → nat_abs e ≤ n → nat_abs f ≤ n → nat_abs g ≤ n
-    → T (all_within n (read a ∷ read b ∷ read c ∷ read d ∷ read e ∷ read f ∷ read g ∷ []))
-seven_within {n} {a} {b} {c} {d} {e} {f} {g} fa fb fc fd fe ff fg pa pb pc pd pe pf pg =
-    let none : T (all_within n []) = unfold all_within in tt in
-    within_more n a _ fa pa (within_more n b _ fb pb (within_more n c _ fc pc (within_more n d _ fd pd
-    (within_more n e _ fe pe (within_more n f _ ff pf (within_more n g _ fg pg none))))))
+module _ {u : Sum} {j x : ℕ} (pre : Sized limit u × (j ≤ most_period) × InRange x) where
+  word_fits : (i : ℕ) → SFits w64 (get_or u i (pos 0))
+  word_fits i = fits_size w64 (get_or u i (pos 0)) (omega (arith, within_at limit u i pre.0.within))
 
-pub within_word : {n : ℕ} (v : Sum) (i : ℕ) {b : ℤ} → T (all_within n v) → b ≡ get_or v i (pos 0) → nat_abs b ≤ n
-within_word {n} v i t e = rw e (within_at n v i t)
+  abbrev first : Sum
+  first = set u 0 (read (read (get_or u 0 (pos 0)) +ℤ to_z w64 j))
+
+  same_there : get_or first x (pos 0) ≡ get_or u x (pos 0)
+  same_there = let ne : x ≢ 0 = omega (arith, pre.2.0) in rw get_or-set_other refl
+
+  there_fits : SFits w64 (get_or first x (pos 0))
+  there_fits = subst (SFits w64) (sym same_there) (word_fits x)
+
+  pub add_asks : SFits w64 (read (get_or u 0 (pos 0)) +ℤ to_z w64 j)
+  add_asks = first_asks (pre.0, pre.1, pre.2, lit< tt) (word_fits 0) refl
+
+  pub sub_asks : SFits w64 (read (get_or first x (pos 0)) -ℤ pos 1)
+  sub_asks = minus_asks (pre.0, pre.1, pre.2, omega (arith, pre.2.1)) there_fits same_there
+
+  abbrev written : Sum
+  written = set first x (read (read (get_or first x (pos 0)) -ℤ pos 1))
+
+  written_seven : length written ≡ 7
+  written_seven = rw (length-set, length-set) pre.0.seven
+
+  abbrev Word : ℕ → Type 0
+  Word i = (get_or written i (pos 0) ≡ get_or (less x (add u (number (pos j)))) i (pos 0))
+      × (nat_abs (get_or written i (pos 0)) ≤ most_put)
+
+  word_of : (i : ℕ) {z : ℤ} → get_or written i (pos 0) ≡ z
+      → (z ≡ get_or (less x (add u (number (pos j)))) i (pos 0)) × (nat_abs z ≤ most_put) → Word i
+  word_of i e is = rw e is
+
+  at_setting : Word x
+  at_setting =
+      let lt : x < length first = omega (arith, pre.2.1, pre.0.seven, length-set {A = ℤ}) in
+      word_of x (get_or-set_same first x _ (pos 0) lt)
+      (setting_is (pre.0, pre.1, pre.2, omega (arith, pre.2.1)) there_fits same_there (λ e. omega (arith, pre.2.0)) refl)
+
+  at_first : Word 0
+  at_first =
+      let ne : 0 ≢ x = omega (arith, pre.2.0) in
+      let lt : 0 < length u = omega (arith, pre.0.seven) in
+      word_of 0 (get_or-set_other first x 0 _ (pos 0) ne ∙ get_or-set_same u 0 _ (pos 0) lt)
+      (first_is (pre.0, pre.1, pre.2, lit< tt) (word_fits 0) refl refl)
+
+  elsewhere : (i : ℕ) → i < 7 → ¬ (i ≡ x) → ¬ (i ≡ 0) → Word i
+  elsewhere i h n m =
+      word_of i
+      (get_or-set_other first x i _ (pos 0) n ∙ get_or-set_other u 0 i _ (pos 0) m ∙ sym (to_z-of_z (word_fits i)))
+      (other_is (pre.0, pre.1, pre.2, h) (word_fits i) refl m n)
+
+  word_at : (i : ℕ) → i < 7 → Word i
+  word_at i h = by (eqb i x) (eqb i 0) refl refl
+    where
+      by : (a b : Bool) → eqb i x ≡ a → eqb i 0 ≡ b → Word i
+      by true b p q = subst Word (sym (eqb-true i x p)) at_setting
+      by false true p q = subst Word (sym (eqb-true i 0 q)) at_first
+      by false false p q = elsewhere i h (eqb-false i x p) (eqb-false i 0 q)
+
+  pub written_is : (written ≡ less x (add u (number (pos j)))) × Sized most_put written
+  written_is = (
+    ext_get_or (pos 0) written (less x (add u (number (pos j))))
+        (written_seven ∙ sym (less_seven x _ (length_add u (number (pos j)) pre.0.seven) pre.2.1))
+        (λ i h. (word_at i (omega (arith, written_seven))).0),
+    record {
+      seven = written_seven;
+      within = within_each most_put written (λ i h. (word_at i (omega (arith, written_seven))).1);
+    },
+  )

@@ -1,228 +1,188 @@
 -- Joins of one kind along the right side: where the loop stands, and what was judged before.
 -- Assumes nothing.
-use mathlib.Core.Path.{◌≡◌, refl, sym, ap, ap₂, ◌∙◌, subst}
+use mathlib.Core.Path.{◌≡◌, refl, sym, ap, ◌∙◌, subst}
 use mathlib.Core.Logic.{◌⊎◌, inl, inr}
-use mathlib.Core.Bool.{Bool}
-use mathlib.Core.List.{List}
+use mathlib.Core.Bool.{Bool, true, false}
 use Prim.Native.Nat.{ℕ, ◌+◌, ◌<◌, ◌≤◌}
 use native.Mathlib.Omega.{arith}
-use borrow.Author.Rules.{part_to_end}
-use lib.Dec.{eqb}
-use lib.IntN.{pos}
-use lib.ListN.{length, get_or, drop}
-use lib.Seq.{drop-drop}
+use lib.ListN.{length}
 use Rattle.rules.specs.Sum.{Sum}
-use Rattle.rules.specs.Rule.{Rule, Constant, Join}
+use Rattle.rules.specs.Rule.{Junction, Rule, Constant, Join}
+use Rattle.rules.specs.Table.{count}
 use Rattle.rules.specs.Fold.{fold}
-use Rattle.rules.specs.Calls.{signed, words}
-use Rattle.tables.specs.declared.sides.Side.{Side}
-use Rattle.tables.proofs.WordLaws.{number_of, signed_low, words_length}
-use Rattle.tables.proofs.Parts.{bytes_from, bytes_length}
+use Rattle.rules.specs.Literals.{map_literals}
+use Rattle.rules.specs.Calls.{words}
+use Rattle.rules.proofs.Sizes.{weight}
+use Rattle.tables.specs.Kinds.{join_kind, kind_of}
+use Rattle.tables.specs.Parts.{RuleIn, JoinIn, SideIn}
+use Rattle.tables.specs.declared.kind.Kind.{Kind}
+use Rattle.tables.specs.declared.part.Part.{Part}
 use Rattle.judging.specs.Judging.{Says, at_sum}
 use Rattle.judging.specs.Masks.{Known, joint}
 use Rattle.judging.specs.Shifts.{Shifted}
-use Rattle.judging.specs.Walks.{SomeSpine}
+use Rattle.judging.specs.Walks.{Walking, SomeWalking, Judges, SomeSpine, SameJoin}
 use Rattle.judging.specs.declared.answers.Judged.{Judged}
+use Rattle.judging.proofs.KindRules.{IsJoin, join_rule}
 use Rattle.judging.proofs.SaidLaws.{says_throughout, drops_out, regroup}
-use Rattle.judging.proofs.WalkLaws.{Call, call, WalkingFor, SomeFor, JudgesFor, further, Kinded}
-use Rattle.judging.proofs.JoinLaws.{
-  JoinKind,
-  RightFound,
-  sides_of,
-  join_sum,
-  left_walking,
-  left_asks,
-  entry_there,
-  body_there,
-  right_walking,
-  right_side_asks,
-  right_entries_there,
-  right_bodies_there,
-  right_entries_some,
-}
 
--- ---- further, and further again
-
-bytes_none : (l : List ℕ) → l ≡ bytes_from l 0
-bytes_none l = sym (part_to_end l 0)
-
-bytes_twice : (l : List ℕ) (a b : ℕ) → bytes_from (bytes_from l a) b ≡ bytes_from l (a + b)
-bytes_twice l a b =
-    part_to_end (bytes_from l a) b ∙ ap (drop b) (part_to_end l a) ∙ drop-drop b a l ∙ sym (part_to_end l (a + b))
-
-further_none : (q : Call) → q ≡ further q 0 0 q.node q.place
-further_none q =
-    ap₂ (λ (es bs : List ℕ). call es bs q.node q.place q.far q.x q.shift)
-    (bytes_none q.entries) (bytes_none q.bodies)
-
-further_twice : (q : Call) (e b n p d c m o : ℕ)
-    → further (further q e b n p) d c m o ≡ further q (e + d) (b + c) m o
-further_twice q e b n p d c m o =
-    ap₂ (λ (es bs : List ℕ). call es bs m o q.far q.x q.shift)
-    (bytes_twice q.entries e d) (bytes_twice q.bodies b c)
+abbrev size : Part → ℕ
+size p = length (words p.entries.now)
 
 -- ---- where the loop stands
 
 -- of the rule a, `before` says what the sides before make, and the rest stands there
-pub record Rest (q at : Call) (t : Bool) (before : Judged) (a : Rule) (w : Sum) (k : ℕ) : Type 0 where
+pub record Rest (at : Part) (far : Bool) (x : ℕ) (v : Sum) (and : Bool) (before : Judged) (a : Rule) (w : Sum) (k : ℕ)
+    : Type 0 where
   pub prefix : Rule
   pub rest : Rule
   pub said : Says before.yes before.no k prefix
-  pub walking : WalkingFor at rest
-  pub back : (ys ns : ℕ) → Says ys ns k (Join (joint t) prefix (at_sum q.far q.x w k rest))
-      → Says ys ns k (at_sum q.far q.x w k a)
+  pub walking : Walking at x v rest
+  pub back : (ys ns : ℕ) → Says ys ns k (Join (joint and) prefix (at_sum far x w k rest))
+      → Says ys ns k (at_sum far x w k a)
 
--- so far into the entries and the bodies, of every rule that the call may be on
-pub record Along (q : Call) (kind : ℕ) (before : Judged) (from start n p : ℕ) : Type 0 where
-  pub some : SomeFor (further q from start n p)
-  pub rests : (a : Rule) (w : Sum) (k : ℕ) → WalkingFor q a → Shifted q.x w q.shift → k < 64
-      → Rest q (further q from start n p) (eqb kind 2) before a w k
-  pub entries_low : from ≤ length q.entries
-  pub bodies_low : start ≤ length q.bodies
-  pub moved : (0 < from) ⊎ (get_or (words (bytes_from q.bodies start)) 0 (pos 0) ≡ signed kind)
+-- the rest stands in the part `at` of the part p, and is shorter, or a join of the kind itself
+pub record Along (p : Part) (far : Bool) (x : ℕ) (v : Sum) (and : Bool) (before : Judged) (at : Part) : Type 0 where
+  pub some : SomeWalking at x v
+  pub rests : (a : Rule) (w : Sum) (k : ℕ) → Walking p x v a → Shifted x w v → k < 64
+      → Rest at far x v and before a w k
+  pub low : size at ≤ size p
+  pub moved : (size at < size p) ⊎ ((a : Rule) → RuleIn at a → kind_of a ≡ join_kind (joint and))
 
-abbrev pub SpineFor : Call → ℕ → Type 0
-SpineFor q kind = SomeSpine kind (words q.entries) (words q.bodies) q.node q.place q.x q.shift
-
-pub begun : (q : Call) (kind : ℕ) (before : Judged) → SpineFor q kind
-    → Known before.yes before.no (λ i. eqb kind 2) → Along q kind before 0 0 q.node q.place
-begun q kind before spine known = record {
-  some = subst SomeFor (further_none q) spine.some;
+pub begun : (p : Part) (far : Bool) {x : ℕ} {v : Sum} (and : Bool) (before : Judged) → SomeSpine and p x v
+    → Known before.yes before.no (λ i. and) → Along p far x v and before p
+begun p far {x} {v} and before spine known = record {
+  some = spine.some;
   rests = λ a w k h shifted less. record {
-    prefix = Constant (eqb kind 2);
+    prefix = Constant and;
     rest = a;
-    said = says_throughout (constant_folds (eqb kind 2)) known less;
-    walking = subst (λ (at : Call). WalkingFor at a) (further_none q) h;
-    back = λ ys ns s. drops_out (eqb kind 2) (at_sum q.far q.x w k a) s;
+    said = says_throughout constant_folds known less;
+    walking = h;
+    back = λ ys ns s. drops_out and (at_sum far x w k a) s;
   };
-  entries_low = omega arith;
-  bodies_low = omega arith;
-  moved = inr (ap (λ (l : List ℕ). get_or (words l) 0 (pos 0)) (sym (bytes_none q.bodies)) ∙ spine.first);
+  low = omega arith;
+  moved = inr spine.root;
 }
   where
-    constant_folds : (v : Bool) → fold (Constant v) ≡ Constant v
-    constant_folds v = unfold fold in refl
+    constant_folds : fold (Constant and) ≡ Constant and
+    constant_folds = unfold fold in refl
 
-module _ {q : Call} {kind : ℕ} {before : Judged} {from start n p : ℕ} (along : Along q kind before from start n p) where
-  abbrev at : Call
-  at = further q from start n p
+module _ {p at : Part} {far : Bool} {x : ℕ} {v : Sum} {and : Bool} {before : Judged}
+    (along : Along p far x v and before at) {kind : Kind} (read : (a : Rule) → RuleIn at a → kind ≡ kind_of a)
+    {r : Bool} (tells : SameJoin kind and r) where
+  -- ---- the rest is no join of the kind: it is the last side
 
-  -- the kind of the rest is read
-  pub rest_kinded : {k : ℕ} → get_or (words at.bodies) 0 (pos 0) ≡ signed k → Kinded at k
-  rest_kinded first = record { some = along.some; first = first }
-
-  pub rest_join : {k : ℕ} → SpineFor q kind → get_or (words at.bodies) 0 (pos 0) ≡ signed k → k ≡ kind
-      → JoinKind at kind
-  rest_join spine first e = record {
-    kinded = rest_kinded (first ∙ ap signed e);
-    low = spine.low;
-    high = spine.high;
-  }
-
-  -- something was passed, where the kind is another
-  pub passed : {k : ℕ} → SpineFor q kind → get_or (words at.bodies) 0 (pos 0) ≡ signed k → ¬ (k ≡ kind) → 0 < from
-  passed {k} spine first other = by along.moved
+  pub last_shorter : r ≡ false → size at < size p
+  last_shorter other = by along.moved
     where
-      by : (0 < from) ⊎ (get_or (words (bytes_from q.bodies start)) 0 (pos 0) ≡ signed kind) → 0 < from
+      by : (size at < size p) ⊎ ((a : Rule) → RuleIn at a → kind_of a ≡ join_kind (joint and)) → size at < size p
       by (inl h) = h
-      by (inr e) = absurd (other (number_of k kind (sym first ∙ e ∙ signed_low kind (omega (arith, spine.high)))))
+      by (inr same) =
+          let some = along.some in
+          absurd (tells.other other (read some.rule some.walking.at ∙ same some.rule some.walking.at))
 
-  pub rest_shorter : 0 < from → length (bytes_from q.entries from) < length q.entries
-  rest_shorter h = omega (arith, bytes_length q.entries from, along.entries_low)
+  -- ---- the rest is one
 
-  -- ---- the last side
+  module _ (yes : r ≡ true) where
+    sides_of : (a : Rule) → RuleIn at a → IsJoin (joint and) a
+    sides_of a there = join_rule kind a (read a there) (joint and) (tells.same yes)
 
-  pub last_says : {last : Judged} {trues falses : ℕ} → JudgesFor at last.yes last.no
-      → ((i : ℕ) (a b : Rule) → Says before.yes before.no i a → Says last.yes last.no i b
-      → Says trues falses i (Join (joint (eqb kind 2)) a b))
-      → JudgesFor q trues falses
-  last_says judged joined a w i h shifted less =
-      let r = along.rests a w i h shifted less in
-      r.back _ _ (joined i _ _ r.said (judged r.rest w i r.walking shifted less))
+    pub join_in : JoinIn at
+    join_in =
+        let some = along.some in
+        let (y, z, e) = sides_of some.rule some.walking.at in
+        record { joint = joint and; left_side = y; right_side = z; at = subst (RuleIn at) e some.walking.at }
 
-  -- ---- one more side
+    abbrev Left : Part → Type 0
+    Left q = (j : Junction) (a b : Rule) → RuleIn at (Join j a b) → SideIn at 1 2 a q
 
-  abbrev left_at : Call
-  left_at = further q (from + 4) (start + 8) (n + 1) (p + 2)
+    abbrev Right : Part → Type 0
+    Right q = (j : Junction) (a b : Rule) → RuleIn at (Join j a b) → SideIn at (1 + count a) (2 + weight a) b q
 
-  left_moved : further at 4 8 (n + 1) (p + 2) ≡ left_at
-  left_moved = further_twice q from start n p 4 8 (n + 1) (p + 2)
-
-  module _ (join : JoinKind at kind) where
-    pub left_there : (from + 4 ≤ length q.entries) × (start + 8 ≤ length q.bodies)
-    left_there = (
-      omega (arith, entry_there join, bytes_length q.entries from),
-      omega (arith, body_there join, bytes_length q.bodies start),
-    )
-
-    pub left_side_asks : SomeFor left_at
-    left_side_asks = subst SomeFor left_moved (left_asks join)
-
-    pub left_side_shorter : length (bytes_from q.entries (from + 4)) < length q.entries
-    left_side_shorter = omega (arith, bytes_length q.entries (from + 4), left_there.0)
-
-  -- the left side is judged, and joined to those before
-  pub record LeftJudged (left after : Judged) : Type 0 where
-    pub join : JoinKind at kind
-    pub judged : JudgesFor left_at left.yes left.no
-    pub joined : (i : ℕ) (a b : Rule) → Says before.yes before.no i a → Says left.yes left.no i b
-        → Says after.yes after.no i (Join (joint (eqb kind 2)) a b)
-
-  module _ {left after : Judged} (both : LeftJudged left after) where
-    -- the rest is a join: its left side goes to those before, its right side is the rest
-    next : (a : Rule) (w : Sum) (k : ℕ) → WalkingFor q a → Shifted q.x w q.shift → k < 64
-        → (prefix : Rule) × (side : Rule) × Says after.yes after.no k prefix
-        × ((ys ns : ℕ) → Says ys ns k (Join (joint (eqb kind 2)) prefix (at_sum q.far q.x w k side))
-        → Says ys ns k (at_sum q.far q.x w k a))
-        × ((s : Side) → RightFound at kind s
-        → WalkingFor (further q (from + s.entries) (start + s.bodies) s.node s.place) side)
-    next a w k h shifted less =
-        let r = along.rests a w k h shifted less in
-        let j = sides_of both.join r.rest r.walking in
-        let there = subst (λ (c : Call). WalkingFor c j.left_side) left_moved
-        (left_walking both.join r.rest r.walking j) in (
-          Join (joint (eqb kind 2)) r.prefix (at_sum q.far q.x w k j.left_side),
-          j.right_side,
-          both.joined k _ _ r.said (both.judged j.left_side w k there shifted less),
-          λ ys ns s. r.back ys ns
-              (subst (λ (y : Rule). Says ys ns k (Join (joint (eqb kind 2)) r.prefix y)) (join_sum w k j)
-              (regroup (joint (eqb kind 2)) r.prefix _ _ s)),
-          λ s right. subst (λ (c : Call). WalkingFor c j.right_side)
-              (further_twice q from start n p s.entries s.bodies s.node s.place)
-              (right_walking right r.rest r.walking j),
-        )
-
-    -- they settle the join
-    pub after_says : ((i : ℕ) (a b : Rule) → i < 64 → Says after.yes after.no i a
-        → Says after.yes after.no i (Join (joint (eqb kind 2)) a b))
-        → JudgesFor q after.yes after.no
-    after_says settles a w i h shifted less =
-        let (prefix, side, said, back, there) = next a w i h shifted less in
-        back _ _ (settles i _ _ less said)
-
-    module _ {s : Side} (right : RightFound at kind s) where
-      pub right_there : (from + s.entries ≤ length q.entries) × (start + s.bodies ≤ length q.bodies)
-      right_there = (
-        omega (arith, right_entries_there right, bytes_length q.entries from, along.entries_low),
-        omega (arith, right_bodies_there right, bytes_length q.bodies start, along.bodies_low),
-      )
-
-      pub onward : Along q kind after (from + s.entries) (start + s.bodies) s.node s.place
-      onward = record {
-        some = subst SomeFor (further_twice q from start n p s.entries s.bodies s.node s.place)
-            (right_side_asks right);
-        rests = λ a w k h shifted less.
-            let (prefix, side, said, back, there) = next a w k h shifted less in
-            record { prefix = prefix; rest = side; said = said; walking = there s right; back = back };
-        entries_low = right_there.0;
-        bodies_low = right_there.1;
-        moved = inl (omega (arith, right_entries_some right));
+    module _ {o : Part} (right : Right o) where
+      right_walking : {a : Rule} → Walking at x v a → (j : IsJoin (joint and) a) → Walking o x v j.1
+      right_walking h j = record {
+        at = (right (joint and) j.0 j.1 (subst (RuleIn at) j.2 h.at)).at;
+        setting = h.setting;
+        shift = h.shift;
       }
 
--- the bytes of a table are few
-pub few_bytes : (q : Call) → SomeFor q → (length q.entries ≤ 65540) × (length q.bodies ≤ 65540)
-few_bytes q some =
-    let few = some.walking.at.few in (
-      omega (arith, few.few_nodes, words_length q.entries),
-      omega (arith, few.few_words, words_length q.bodies),
-    )
+      pub right_shorter : size o < size at
+      right_shorter =
+          let join = join_in in
+          (right join.joint join.left_side join.right_side join.at).shorter
+
+    module _ {q : Part} (left : Left q) where
+      left_walking : {a : Rule} → Walking at x v a → (j : IsJoin (joint and) a) → Walking q x v j.0
+      left_walking h j = record {
+        at = (left (joint and) j.0 j.1 (subst (RuleIn at) j.2 h.at)).at;
+        setting = h.setting;
+        shift = h.shift;
+      }
+
+      pub left_asks : SomeWalking q x v
+      left_asks =
+          let some = along.some in
+          let j = sides_of some.rule some.walking.at in
+          record { rule = j.0; walking = left_walking some.walking j }
+
+      pub left_shorter : size q < size p
+      left_shorter =
+          let join = join_in in
+          omega (arith, (left join.joint join.left_side join.right_side join.at).shorter, along.low)
+
+      module _ {judged after : Judged} (says : Judges q far x v judged.yes judged.no)
+          (joined : (i : ℕ) (a b : Rule) → Says before.yes before.no i a → Says judged.yes judged.no i b
+          → Says after.yes after.no i (Join (joint and) a b)) where
+        -- its left side goes to those before, its right side is the rest
+        next : (a : Rule) (w : Sum) (k : ℕ) → Walking p x v a → Shifted x w v → k < 64
+            → (prefix : Rule) × (whole : Rule) × (join : IsJoin (joint and) whole) × Walking at x v whole
+            × Says after.yes after.no k prefix
+            × ((ys ns : ℕ) → Says ys ns k (Join (joint and) prefix (at_sum far x w k join.1))
+            → Says ys ns k (at_sum far x w k a))
+        next a w k h shifted less =
+            let r = along.rests a w k h shifted less in
+            let j = sides_of r.rest r.walking.at in (
+              Join (joint and) r.prefix (at_sum far x w k j.0),
+              r.rest,
+              j,
+              r.walking,
+              joined k _ _ r.said (says j.0 w k (left_walking r.walking j) shifted less),
+              λ ys ns s. r.back ys ns
+                  (subst (λ (y : Rule). Says ys ns k (Join (joint and) r.prefix y)) (join_sum w k j)
+                  (regroup (joint and) r.prefix _ _ s)),
+            )
+          where
+            join_sum : {a : Rule} (w : Sum) (i : ℕ) (j : IsJoin (joint and) a)
+                → Join (joint and) (at_sum far x w i j.0) (at_sum far x w i j.1) ≡ at_sum far x w i a
+            join_sum w i j = unfold at_sum map_literals in ap (at_sum far x w i) (sym j.2)
+
+        -- they settle the join
+        pub settled_says : ((i : ℕ) (a b : Rule) → i < 64 → Says after.yes after.no i a
+            → Says after.yes after.no i (Join (joint and) a b)) → Judges p far x v after.yes after.no
+        settled_says settles a w i h shifted less =
+            let (prefix, whole, j, walking, said, back) = next a w i h shifted less in
+            back _ _ (settles i _ _ less said)
+
+        module _ {o : Part} (right : Right o) where
+          pub onward : Along p far x v and after o
+          onward = record {
+            some =
+                let some = along.some in
+                let j = sides_of some.rule some.walking.at in
+                record { rule = j.1; walking = right_walking right some.walking j };
+            rests = λ a w k h shifted less.
+                let (prefix, whole, j, walking, said, back) = next a w k h shifted less in
+                record { prefix = prefix; rest = j.1; said = said; walking = right_walking right walking j; back = back };
+            low = omega (arith, right_shorter right, along.low);
+            moved = inl (omega (arith, right_shorter right, along.low));
+          }
+
+-- the last side is judged
+pub last_says : {p at : Part} {far : Bool} {x : ℕ} {v : Sum} {and : Bool} {before last : Judged} {ys ns : ℕ}
+    → Along p far x v and before at → Judges at far x v last.yes last.no
+    → ((i : ℕ) (a b : Rule) → Says before.yes before.no i a → Says last.yes last.no i b
+    → Says ys ns i (Join (joint and) a b))
+    → Judges p far x v ys ns
+last_says along judged joined a w i h shifted less =
+    let r = along.rests a w i h shifted less in
+    r.back _ _ (joined i _ _ r.said (judged r.rest w i r.walking shifted less))

@@ -8,9 +8,7 @@ use Rattle.rules.specs.Fold.{fold}
 use Rattle.rules.specs.Literals.{map_literals}
 use Rattle.rules.specs.Eliminate.{most_period}
 use Rattle.tables.specs.Standing.{RuleAt}
-use Rattle.literals.specs.Changes.{becomes, InRange}
-use Rattle.literals.specs.declared.change.Change.{Change}
-use Rattle.literals.specs.declared.change.Change.TheVariants.{Far, Full}
+use Rattle.literals.specs.Changes.{Change, Far, Full, becomes, InRange}
 
 -- 1 where the mask m has bit k, else 0
 abbrev pub bit : ℕ → ℕ → ℕ

@@ -8,13 +8,13 @@ ghost use Rattle.judging.specs.Masks.{Mask, Placed};
 ghost use Rattle.judging.specs.Shifts.{most_moved};
 
 // Every bit.
-pub const ONES: u64 = 0xFFFF_FFFF_FFFF_FFFF;
+pub const ONES: u64 = u64::MAX;
 
 // Every bit the other way.
 pub fn opposite(m: u64) -> u64
     ensures { (k : ℕ) → k < 64 → bit result k ≡ 1 - bit m k }
 {
-    ONES - m
+    !m
 }
 
 // The same bit throughout.
@@ -61,11 +61,11 @@ fn comb(d: u64) -> u64
     requires { (1 ≤ d) × (d ≤ limit) }
     ensures { Mask result (λ k. eqb (k % d) 0) }
 {
-    let mut m: u64 = 1;
-    let mut w: u64 = d;
+    let mut m = 1;
+    let mut w = d;
     while w < 64 {
-        m = m | m << w;
-        w = w + w;
+        m |= m << w;
+        w += w;
     }
     m
 }
@@ -75,11 +75,7 @@ fn distance(d: u64, c: i64) -> u64
     requires { (1 ≤ d) × (d ≤ limit) × (nat_abs c < 2 ^ 63) }
     ensures { (result < d) × Divides d (c +ℤ pos result) }
 {
-    let r = c % d as i64;
-    if 0 < r {
-        return d - r as u64;
-    }
-    (0 - r) as u64
+    (-c).rem_euclid(d as i64) as u64
 }
 
 // The bits k at which d divides c + k.

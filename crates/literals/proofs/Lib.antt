@@ -1,10 +1,10 @@
 pub mod Sizes
 pub mod Products
-pub mod Ranges
 pub mod Sevens
 pub mod Terms
 pub mod Tests
 pub mod Literals
+pub mod KindNumbers
 pub mod RowLaws
 pub mod SumLaws
 pub mod ChangeLaws

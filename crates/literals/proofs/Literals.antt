@@ -1,23 +1,22 @@
 -- What stands in the words of a literal: its kind, its divisor and its T.
 -- Assumes nothing.
-use mathlib.Core.Path.{◌≡◌, refl, sym, ap, ap₂, ◌∙◌, subst⁻¹}
+use mathlib.Core.Path.{◌≡◌, sym, ap, ◌∙◌}
 use mathlib.Core.Bool.{Bool, true, false}
-use mathlib.Core.List.{List, [], ◌∷◌}
+use mathlib.Core.List.{List}
 use Prim.Native.Nat.{ℕ, ◌+◌, ◌^◌, ◌<◌, ◌≤◌}
 use native.Mathlib.Omega.{arith}
 use borrow.Author.Rules.{sfits_of}
-use lib.Dec.{T}
 use lib.IntN.{ℤ, pos}
 use lib.ListN.{length, get_or, take, drop, length-append}
 use lib.Seq.{take_at, get_or-drop, get_or-take}
 use lib.Signed.{mag}
-use mir.Syntax.{w32, w64}
-use mir.Val.{SFits, to_z, of_z, hbits}
+use mir.Syntax.{w64}
+use mir.Val.{to_z, of_z, hbits}
 use mir.Facts.{to_z-of_z}
-use Rattle.rules.specs.Sum.{Sum, all_within, value}
+use Rattle.rules.specs.Sum.{Sum, value}
 use Rattle.rules.specs.Rule.{Test, positive, divisible, is_zero, passes}
 use Rattle.rules.specs.Table.{body}
-use Rattle.rules.specs.Match.{most_value, choice}
+use Rattle.rules.specs.Match.{choice}
 use Rattle.rules.specs.Laws.{DivisorOf}
 use Rattle.rules.specs.Calls.{signed}
 use Rattle.tables.proofs.Inversion.{test_kind}
@@ -27,7 +26,7 @@ use Rattle.literals.specs.Literal.{start_of, Marked, SomeTest, LiteralAt, SomeLi
 -- ---- the body, word by word
 
 module _ {ws : List ℤ} {n : ℕ} {s : Sum} where
-  literal_kind : (t : Test) → LiteralAt ws n t s → get_or ws 0 (pos 0) ≡ pos (test_kind t)
+  pub literal_kind : (t : Test) → LiteralAt ws n t s → get_or ws 0 (pos 0) ≡ pos (test_kind t)
   unfolding body
   literal_kind positive l = ap (λ ws. get_or ws 0 (pos 0)) l.begins
   literal_kind (divisible true k) l = ap (λ ws. get_or ws 0 (pos 0)) l.begins
@@ -87,16 +86,6 @@ module _ {ws : List ℤ} {n : ℕ} {s : Sum} where
 
 -- ---- what `holds` has to show of the functions that it calls
 
--- the six values, as a call passes them on
-pub values_again : {s1 s2 s3 s4 s5 s6 : ℤ}
-    → SFits w32 s1 → SFits w32 s2 → SFits w32 s3 → SFits w32 s4 → SFits w32 s5 → SFits w32 s6
-    → (to_z w32 (of_z w32 s1) ∷ to_z w32 (of_z w32 s2) ∷ to_z w32 (of_z w32 s3)
-    ∷ to_z w32 (of_z w32 s4) ∷ to_z w32 (of_z w32 s5) ∷ to_z w32 (of_z w32 s6) ∷ [])
-    ≡ (s1 ∷ s2 ∷ s3 ∷ s4 ∷ s5 ∷ s6 ∷ [])
-values_again f1 f2 f3 f4 f5 f6 =
-    ap₂ ◌∷◌ (to_z-of_z f1) (ap₂ ◌∷◌ (to_z-of_z f2) (ap₂ ◌∷◌ (to_z-of_z f3)
-    (ap₂ ◌∷◌ (to_z-of_z f4) (ap₂ ◌∷◌ (to_z-of_z f5) (ap₂ ◌∷◌ (to_z-of_z f6) refl)))))
-
 module _ {ws : List ℤ} (h : SomeLiteral ws) where
   pub literal_long : 8 ≤ length ws
   literal_long = by h.test h.at
@@ -107,13 +96,8 @@ module _ {ws : List ℤ} (h : SomeLiteral ws) where
       by is_zero l = literal_length is_zero l
 
   module _ {kind : ℕ} (p : get_or ws 0 (pos 0) ≡ signed kind) where
-    pub value_asks : {at : ℕ} → ((t : Test) → kind ≡ test_kind t → at ≡ start_of t)
-        → {us vs : List ℤ} → us ≡ vs → T (all_within most_value vs)
-        → (at + 7 ≤ length ws) × T (all_within most_value us)
-    value_asks starts e small = (
-      (literal_start h.test h.at p starts).1,
-      subst⁻¹ (λ vs. T (all_within most_value vs)) e small,
-    )
+    pub value_asks : {at : ℕ} → ((t : Test) → kind ≡ test_kind t → at ≡ start_of t) → at + 7 ≤ length ws
+    value_asks starts = (literal_start h.test h.at p starts).1
 
     pub passes_asks : {k : ℕ} → get_or ws 1 (pos 0) ≡ signed k → SomeTest kind k
     passes_asks q = record { test = h.test; marked = literal_marked h.test h.at p q; fair = h.at.fair }
@@ -122,14 +106,13 @@ module _ {ws : List ℤ} (h : SomeLiteral ws) where
 pub holds_is : {ws : List ℤ} {n : ℕ} {t : Test} {s : Sum} → LiteralAt ws n t s
     → {kind k at : ℕ} → get_or ws 0 (pos 0) ≡ signed kind → get_or ws 1 (pos 0) ≡ signed k
     → ((t : Test) → kind ≡ test_kind t → at ≡ start_of t)
-    → (us vs : List ℤ) → us ≡ vs
-    → (z : ℤ) → mag z < 2 ^ hbits w64 → z ≡ value (take 7 (drop at ws)) (choice us)
+    → (vs : List ℤ) (z : ℤ) → mag z < 2 ^ hbits w64 → z ≡ value (take 7 (drop at ws)) (choice vs)
     → {r : Bool} → ((t : Test) → Marked kind k t → r ≡ passes t (to_z w64 (of_z w64 z)))
     → r ≡ passes t (value s (choice vs))
-holds_is {ws} {n} {t} {s} l p q starts us vs same z f e tests =
+holds_is {ws} {n} {t} {s} l p q starts vs z f e tests =
     let m = literal_marked t l p q in
     tests t m
     ∙ ap (passes t)
     (to_z-of_z {w = w64} (sfits_of {z = z} f) ∙ e
-    ∙ ap (λ at. value (take 7 (drop at ws)) (choice us)) (starts t m.same_kind)
-    ∙ ap₂ (λ l vs. value l (choice vs)) (literal_sum t l) same)
+    ∙ ap (λ at. value (take 7 (drop at ws)) (choice vs)) (starts t m.same_kind)
+    ∙ ap (λ l. value l (choice vs)) (literal_sum t l))

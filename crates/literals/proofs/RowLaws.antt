@@ -1,90 +1,39 @@
 -- One word as a step changes it: it fits 64 bits, and it is what the row makes of it.
 -- Assumes nothing.
 use mathlib.Core.Path.{◌≡◌, refl, sym, ap, ◌∙◌}
-use mathlib.Core.Bool.{Bool, true, false, not, cond}
+use mathlib.Core.Bool.{Bool, not, cond}
 use Prim.Native.Nat.{ℕ, zero, suc, ◌/◌, ◌<◌, ◌≤◌}
 use native.Mathlib.Nat.{le_trans, div-le_self}
 use native.Mathlib.Omega.{arith}
-use borrow.Author.Tests.{eq-eqb, ne_eqb, ltb-true, ltb-false}
-use lib.Dec.{T, eqb}
-use lib.IntN.{ℤ, pos, negsuc, neg_ℤ, nat_abs, ◌+ℤ◌, ◌-ℤ◌, ◌*ℤ◌, +ℤ_idl}
-use lib.Signed.{mag, lt_z, non_neg, nat_abs-le}
+use borrow.Author.Tests.{eq-eqb, ne_eqb}
+use lib.Dec.{eqb}
+use lib.IntN.{ℤ, pos, negsuc, nat_abs, ◌+ℤ◌, ◌*ℤ◌, +ℤ_idl}
+use lib.Signed.{mag, nat_abs-le}
 use mir.Syntax.{w32, w64}
-use mir.Val.{SFits, Fits, to_z, of_z}
+use mir.Val.{SFits, to_z, of_z}
 use mir.Facts.{to_z-of_z}
-use Rattle.whole.proofs.Tests.{never}
+use Rattle.std.specs.Int.{int_signum}
 use Rattle.whole.specs.Integers.{eq_ℤ}
-use Rattle.whole.proofs.Divisibility.{size_neg}
 use Rattle.rules.specs.Steps.{sign}
 use Rattle.rules.specs.Eliminate.{most_period}
-use Rattle.literals.specs.Rows.{most_word}
-use Rattle.literals.proofs.Sizes.{read, wide_is, fits_size}
+use Rattle.literals.proofs.Sizes.{read, wide_is, fits_size, by_bits}
 use Rattle.literals.proofs.Products.{product_asks, product_is}
 
--- ---- a sign and a size
+-- ---- a sign
 
-negative_sign : (f : ℤ) → lt_z f (pos 0) ≡ true → negsuc 0 ≡ sign f
-negative_sign (pos n) e = absurd (omega (arith, ltb-true n 0 e))
-negative_sign (negsuc n) e = refl
+sign_is : (f : ℤ) → int_signum f ≡ sign f
+sign_is (pos zero) = refl
+sign_is (pos (suc n)) = ap pos (omega arith)
+sign_is (negsuc n) = refl
 
-positive_sign : (f : ℤ) → lt_z (pos 0) f ≡ true → pos 1 ≡ sign f
-positive_sign (pos zero) e = absurd (omega (arith, ltb-true 0 0 e))
-positive_sign (pos (suc n)) e = refl
-positive_sign (negsuc n) e = never e
-
-zero_sign : (f : ℤ) → lt_z f (pos 0) ≡ false → lt_z (pos 0) f ≡ false → pos 0 ≡ sign f
-zero_sign (pos zero) e g = refl
-zero_sign (pos (suc n)) e g = absurd (omega (arith, ltb-false 0 (suc n) g))
-zero_sign (negsuc n) e g = never (sym e)
-
-turned : (f : ℤ) → lt_z f (pos 0) ≡ true → T (non_neg (neg_ℤ f))
-turned (pos n) e = absurd (omega (arith, ltb-true n 0 e))
-turned (negsuc n) e = tt
-
-not_turned : (f : ℤ) → lt_z f (pos 0) ≡ false → T (non_neg f)
-not_turned (pos n) e = tt
-not_turned (negsuc n) e = never (sym e)
-
-module _ {f : ℤ} (g : SFits w64 f) where
-  below : {b : Bool} → lt_z (read f) (pos 0) ≡ b → lt_z f (pos 0) ≡ b
-  below e = ap (λ (z : ℤ). lt_z z (pos 0)) (sym (to_z-of_z g)) ∙ e
-
-  above : {b : Bool} → lt_z (pos 0) (read f) ≡ b → lt_z (pos 0) f ≡ b
-  above e = ap (lt_z (pos 0)) (sym (to_z-of_z g)) ∙ e
-
-  pub sign_negative : lt_z (read f) (pos 0) ≡ true → negsuc 0 ≡ sign f
-  sign_negative e = negative_sign f (below e)
-
-  pub sign_positive : lt_z (pos 0) (read f) ≡ true → pos 1 ≡ sign f
-  sign_positive e = positive_sign f (above e)
-
-  pub sign_zero : lt_z (read f) (pos 0) ≡ false → lt_z (pos 0) (read f) ≡ false → pos 0 ≡ sign f
-  sign_zero e h = zero_sign f (below e) (above h)
-
-  module _ (small : nat_abs f ≤ most_word) where
-    size_fits : Fits w64 (nat_abs f)
-    size_fits = record { fits = omega arith }
-
-    pub size_plain : lt_z (read f) (pos 0) ≡ false → T (non_neg (read f)) × Fits w64 (nat_abs (read f))
-    size_plain e = rw (to_z-of_z g) (not_turned f (below e), size_fits)
-
-    negation_fits : SFits w64 (neg_ℤ f)
-    negation_fits = fits_size w64 (neg_ℤ f) (rw (size_neg f) (omega arith))
-
-    pub negation_asks : SFits w64 (pos 0 -ℤ read f)
-    negation_asks = rw (to_z-of_z g, +ℤ_idl (neg_ℤ f)) negation_fits
-
-    negation_is : read (pos 0 -ℤ read f) ≡ neg_ℤ f
-    negation_is = rw (to_z-of_z g, +ℤ_idl (neg_ℤ f)) (to_z-of_z negation_fits)
-
-    pub size_turned : lt_z (read f) (pos 0) ≡ true
-        → T (non_neg (read (pos 0 -ℤ read f))) × Fits w64 (nat_abs (read (pos 0 -ℤ read f)))
-    size_turned e = rw negation_is (turned f (below e), rw (size_neg f) size_fits)
-
-    pub size_is : nat_abs (read (pos 0 -ℤ read f)) ≡ nat_abs f
-    size_is = ap nat_abs negation_is ∙ size_neg f
+pub sign_read : {f g : ℤ} → SFits w64 f → g ≡ int_signum (read f) → g ≡ sign f
+sign_read {f} h e = e ∙ ap int_signum (to_z-of_z h) ∙ sign_is f
 
 -- ---- the multiplier
+
+size_bits : (f : ℤ) → nat_abs f ≡ 0 → of_z w64 f ≡ 0
+size_bits (pos n) z = z
+size_bits (negsuc n) z = absurd (omega arith)
 
 module _ (D : ℕ) where
   one : (f : ℤ) → nat_abs f ≡ 0 → 1 ≡ cond (not (eq_ℤ f (pos 0))) (D / nat_abs f) 1
@@ -96,17 +45,18 @@ module _ (D : ℕ) where
   quotient (pos n) z = sym (ap (λ (b : Bool). cond (not b) (D / n) 1) (ne_eqb n 0 z))
   quotient (negsuc n) z = refl
 
-  module _ {f : ℤ} {by : ℕ} (g : SFits w64 f) (e : by ≡ nat_abs (read f)) where
-    size_read : by ≡ nat_abs f
-    size_read = e ∙ ap nat_abs (to_z-of_z g)
+  module _ {f : ℤ} (g : SFits w64 f) where
+    pub multiplier_one : of_z w64 f ≡ 0 → (1 ≡ cond (not (eq_ℤ f (pos 0))) (D / nat_abs f) 1) × (1 ≤ most_period)
+    multiplier_one z = (one f (ap nat_abs (by_bits g z)), omega arith)
 
-    pub multiplier_one : by ≡ 0 → (1 ≡ cond (not (eq_ℤ f (pos 0))) (D / nat_abs f) 1) × (1 ≤ most_period)
-    multiplier_one z = (one f (sym size_read ∙ z), omega arith)
+    pub size_positive : {by : ℕ} → by ≡ nat_abs (read f) → ¬ (of_z w64 f ≡ 0) → 0 < by
+    size_positive {by} e n =
+        let nonzero : ¬ (by ≡ 0) = λ z. n (size_bits f (sym (ap nat_abs (to_z-of_z g)) ∙ sym e ∙ z)) in omega arith
 
-    pub multiplier_is : D ≤ most_period → ¬ (by ≡ 0)
+    pub multiplier_is : {by : ℕ} → by ≡ nat_abs (read f) → D ≤ most_period → ¬ (of_z w64 f ≡ 0)
         → (D / by ≡ cond (not (eq_ℤ f (pos 0))) (D / nat_abs f) 1) × (D / by ≤ most_period)
-    multiplier_is h n = (
-      ap (λ (k : ℕ). D / k) size_read ∙ quotient f (λ z. n (size_read ∙ z)),
+    multiplier_is {by} e h n = (
+      ap (λ (k : ℕ). D / k) (e ∙ ap nat_abs (to_z-of_z g)) ∙ quotient f (λ z. n (size_bits f z)),
       le_trans (div-le_self D by) h,
     )
 

@@ -1,18 +1,15 @@
 -- The seven words of a sum: each lies within what all lie within, and they make up the sum.
 -- Assumes nothing.
-use mathlib.Core.Path.{◌≡◌, refl, sym, ap₂, ◌∙◌}
+use mathlib.Core.Path.{◌≡◌, refl}
 use mathlib.Core.List.{List, [], ◌∷◌}
 use Prim.Native.Nat.{ℕ, zero, suc, ◌≤◌}
 use native.Mathlib.Omega.{arith}
 use lib.Dec.{T, leb→le}
 use lib.IntN.{ℤ, pos, nat_abs}
 use lib.ListN.{length, get_or}
-use mir.Syntax.{Width}
-use mir.Val.{SFits, to_z, of_z}
-use mir.Facts.{to_z-of_z}
 use Rattle.whole.specs.Integers.{within}
 use Rattle.whole.proofs.Tests.{T_and}
-use Rattle.rules.specs.Sum.{Sum, all_within}
+use Rattle.rules.specs.Sum.{all_within}
 
 pub within_at : (n : ℕ) (zs : List ℤ) (i : ℕ) → T (all_within n zs) → nat_abs (get_or zs i (pos 0)) ≤ n
 unfolding all_within
@@ -33,15 +30,3 @@ listed (a ∷ b ∷ c ∷ d ∷ e ∷ []) h = absurd (omega arith)
 listed (a ∷ b ∷ c ∷ d ∷ e ∷ f ∷ []) h = absurd (omega arith)
 listed (a ∷ b ∷ c ∷ d ∷ e ∷ f ∷ g ∷ []) h = refl
 listed (a ∷ b ∷ c ∷ d ∷ e ∷ f ∷ g ∷ k ∷ l) h = absurd (omega arith)
-
--- an array of the seven holds the sum
-pub seven_are : (w : Width) {z : Sum} → length z ≡ 7 → {a b c d e f g : ℤ}
-    → SFits w a → SFits w b → SFits w c → SFits w d → SFits w e → SFits w f → SFits w g
-    → a ≡ get_or z 0 (pos 0) → b ≡ get_or z 1 (pos 0) → c ≡ get_or z 2 (pos 0) → d ≡ get_or z 3 (pos 0)
-    → e ≡ get_or z 4 (pos 0) → f ≡ get_or z 5 (pos 0) → g ≡ get_or z 6 (pos 0)
-    → (to_z w (of_z w a) ∷ to_z w (of_z w b) ∷ to_z w (of_z w c) ∷ to_z w (of_z w d)
-    ∷ to_z w (of_z w e) ∷ to_z w (of_z w f) ∷ to_z w (of_z w g) ∷ []) ≡ z
-seven_are w {z} seven fa fb fc fd fe ff fg pa pb pc pd pe pf pg =
-    ap₂ ◌∷◌ (to_z-of_z fa ∙ pa) (ap₂ ◌∷◌ (to_z-of_z fb ∙ pb) (ap₂ ◌∷◌ (to_z-of_z fc ∙ pc) (ap₂ ◌∷◌ (to_z-of_z fd ∙ pd)
-    (ap₂ ◌∷◌ (to_z-of_z fe ∙ pe) (ap₂ ◌∷◌ (to_z-of_z ff ∙ pf) (ap₂ ◌∷◌ (to_z-of_z fg ∙ pg) refl))))))
-    ∙ sym (listed z seven)

@@ -1,12 +1,12 @@
 -- The value of a sum, added up term by term at 64 bits.
 -- Assumes nothing.
-use mathlib.Core.Path.{◌≡◌, sym, ap, ◌∙◌}
+use mathlib.Core.Path.{◌≡◌, refl, sym, ap, ap₂, ◌∙◌, subst}
 use mathlib.Core.List.{List, [], ◌∷◌}
-use Prim.Native.Nat.{ℕ, ◌+◌, ◌-◌, ◌*◌, ◌^◌, ◌<◌, ◌≤◌}
+use Prim.Native.Nat.{ℕ, zero, suc, ◌+◌, ◌-◌, ◌*◌, ◌^◌, ◌<◌, ◌≤◌}
 use native.Mathlib.Nat.{mul-le-mul}
 use native.Mathlib.Omega.{arith}
 use borrow.Author.Rules.{sfits_of}
-use lib.Dec.{lit<}
+use lib.Dec.{T, lit<}
 use lib.IntN.{ℤ, pos, nat_abs, ◌+ℤ◌, ◌*ℤ◌}
 use lib.ListN.{length, get_or, take, drop, length-take, length-drop}
 use lib.Seq.{get_or-drop, get_or-take}
@@ -14,11 +14,11 @@ use lib.Signed.{mag}
 use mir.Syntax.{w32, w64}
 use mir.Val.{SFits, to_z, of_z, hbits}
 use mir.Facts.{to_z-of_z}
-use Rattle.rules.specs.Sum.{dot, value}
+use Rattle.rules.specs.Sum.{Sum, all_within, places, dot, value}
 use Rattle.rules.specs.Match.{most_value, choice}
 use Rattle.literals.specs.Literal.{most_term}
-use Rattle.literals.proofs.Sizes.{wide_is, size_mul, size_add, size_of, fits_size}
-use Rattle.literals.proofs.Sevens.{listed}
+use Rattle.literals.proofs.Sizes.{wide_is, size_mul, size_add, size_of, fits_size, again}
+use Rattle.literals.proofs.Sevens.{listed, within_at}
 
 -- ---- one term
 
@@ -56,32 +56,86 @@ module _ {a s : ℤ} (f : SFits w32 a) (g : SFits w32 s) (low : nat_abs s ≤ mo
 
 -- ---- the seven
 
-module _ (ws : List ℤ) (at : ℕ) where
+-- what the terms behind that of setting v add up to
+unfoldable pub behind : Sum → List ℤ → ℕ → ℤ
+unfolding dot
+behind s vs v = dot (drop (v + 1) s) (λ (k : ℕ). places (choice vs) (v + 1 + k))
+
+module _ (a b c d e f g : ℤ) (vs : List ℤ) where
+  abbrev seven : Sum
+  seven = a ∷ b ∷ c ∷ d ∷ e ∷ f ∷ g ∷ []
+
+  last_of : pos 0 ≡ behind seven vs 6
+  unfolding behind dot
+  last_of = refl
+
+  more_of : (v : ℕ) → v < 6
+      → get_or seven (v + 1) (pos 0) *ℤ get_or vs v (pos 0) +ℤ behind seven vs (v + 1) ≡ behind seven vs v
+  unfolding behind dot
+  more_of zero h = refl
+  more_of (suc zero) h = refl
+  more_of (suc (suc zero)) h = refl
+  more_of (suc (suc (suc zero))) h = refl
+  more_of (suc (suc (suc (suc zero)))) h = refl
+  more_of (suc (suc (suc (suc (suc zero))))) h = refl
+  more_of (suc (suc (suc (suc (suc (suc v)))))) h = absurd (omega arith)
+
+  whole_of : a *ℤ pos 1 +ℤ behind seven vs 0 ≡ value seven (choice vs)
+  unfolding behind value dot
+  whole_of = refl
+
+module _ (ws : List ℤ) (at : ℕ) (inside : at + 7 ≤ length ws) (vs : List ℤ) where
   abbrev word : ℕ → ℤ
   word v = get_or ws (at + v) (pos 0)
 
-  sum_words : at + 7 ≤ length ws
-      → take 7 (drop at ws) ≡ word 0 ∷ word 1 ∷ word 2 ∷ word 3 ∷ word 4 ∷ word 5 ∷ word 6 ∷ []
-  sum_words h =
-      listed (take 7 (drop at ws)) (simp (length-take, length-drop) (omega arith))
-      ∙ simp (get_or-take, get_or-drop, lit<, tt {0})
+  abbrev sum : Sum
+  sum = take 7 (drop at ws)
+
+  seven_words : sum ≡ seven (word 0) (word 1) (word 2) (word 3) (word 4) (word 5) (word 6) vs
+  seven_words =
+      listed sum (simp (length-take, length-drop) (omega arith)) ∙ simp (get_or-take, get_or-drop, lit<, tt {0})
+
+  pub last : pos 0 ≡ behind sum vs 6
+  last = subst (λ (s : Sum). pos 0 ≡ behind s vs 6) (sym seven_words)
+      (last_of (word 0) (word 1) (word 2) (word 3) (word 4) (word 5) (word 6) vs)
 
   -- a term is added to what the terms behind it add up to
-  pub chained : {s x y r : ℤ} (v : ℕ) → SFits w32 s → mag x < 2 ^ hbits w64
-      → r ≡ word v *ℤ to_z w32 (of_z w32 s) +ℤ to_z w64 (of_z w64 x) → x ≡ y → r ≡ word v *ℤ s +ℤ y
-  chained {s} {x} v f g e p =
-      e ∙ ap (λ t. word v *ℤ t +ℤ to_z w64 (of_z w64 x)) (to_z-of_z f)
-      ∙ ap (λ t. word v *ℤ s +ℤ t) (to_z-of_z {w = w64} (sfits_of {z = x} g) ∙ p)
+  pub more : (v : ℕ) → v < 6 → word (v + 1) *ℤ get_or vs v (pos 0) +ℤ behind sum vs (v + 1) ≡ behind sum vs v
+  more v h =
+      let less : v + 1 < 7 = omega arith in
+      let here : get_or sum (v + 1) (pos 0) ≡ word (v + 1) = rw (get_or-take, get_or-drop) refl in
+      rw (← here) (subst
+      (λ (s : Sum). get_or s (v + 1) (pos 0) *ℤ get_or vs v (pos 0) +ℤ behind s vs (v + 1) ≡ behind s vs v)
+      (sym seven_words) (more_of (word 0) (word 1) (word 2) (word 3) (word 4) (word 5) (word 6) vs v h))
 
-  pub value_is : (s1 s2 s3 s4 s5 s6 : ℤ) {r : ℤ} → at + 7 ≤ length ws
-      → mag r < 2 ^ hbits w64 → nat_abs r ≤ 7 * most_term
-      → r ≡ word 0 *ℤ pos 1 +ℤ (word 1 *ℤ s1 +ℤ (word 2 *ℤ s2 +ℤ (word 3 *ℤ s3 +ℤ (word 4 *ℤ s4
-      +ℤ (word 5 *ℤ s5 +ℤ (word 6 *ℤ s6 +ℤ pos 0))))))
-      → (to_z w64 (of_z w64 r) ≡ value (take 7 (drop at ws)) (choice (s1 ∷ s2 ∷ s3 ∷ s4 ∷ s5 ∷ s6 ∷ [])))
-      × (nat_abs (to_z w64 (of_z w64 r)) < 2 ^ 63)
-  unfolding value dot
-  value_is s1 s2 s3 s4 s5 s6 {r} h f small e =
-      let back = to_z-of_z {w = w64} (sfits_of {z = r} f) in (
-        back ∙ e ∙ ap (λ l. value l (choice (s1 ∷ s2 ∷ s3 ∷ s4 ∷ s5 ∷ s6 ∷ []))) (sym (sum_words h)),
+  pub whole : word 0 *ℤ pos 1 +ℤ behind sum vs 0 ≡ value sum (choice vs)
+  whole = subst (λ (s : Sum). word 0 *ℤ pos 1 +ℤ behind s vs 0 ≡ value s (choice vs)) (sym seven_words)
+      (whole_of (word 0) (word 1) (word 2) (word 3) (word 4) (word 5) (word 6) vs)
+
+  -- one turn: the term of setting m + 1 is added
+  pub turn : {v : ℕ} (m : ℕ) → m + 1 ≡ v → m < 6 → SFits w32 (get_or vs m (pos 0)) → {x r : ℤ} → mag r < 2 ^ hbits w64
+      → r ≡ word (m + 1) *ℤ to_z w32 (of_z w32 (get_or vs m (pos 0))) +ℤ x → x ≡ behind sum vs v
+      → to_z w64 (of_z w64 r) ≡ behind sum vs m
+  turn m next less f {x} {r} g e p =
+      to_z-of_z {w = w64} (sfits_of {z = r} g) ∙ e
+      ∙ ap₂ (λ (a b : ℤ). word (m + 1) *ℤ a +ℤ b) (to_z-of_z f)
+      (p ∙ ap (λ (v : ℕ). behind sum vs v) (sym next))
+      ∙ more m less
+
+  -- and the last one, of c
+  pub closed : {x r : ℤ} → mag r < 2 ^ hbits w64 → r ≡ get_or ws (at + 0) (pos 0) *ℤ pos 1 +ℤ x → x ≡ behind sum vs 0
+      → nat_abs r ≤ 7 * most_term
+      → (to_z w64 (of_z w64 r) ≡ value sum (choice vs)) × (nat_abs (to_z w64 (of_z w64 r)) < 2 ^ 63)
+  closed {x} {r} g e p small =
+      let back = to_z-of_z {w = w64} (sfits_of {z = r} g) in (
+        back ∙ e ∙ ap (λ (b : ℤ). word 0 *ℤ pos 1 +ℤ b) p ∙ whole,
         rw back (omega arith),
       )
+
+-- a value, as a call passes it on
+pub value_fits : (vs : List ℤ) (i : ℕ) → T (all_within most_value vs) → SFits w32 (get_or vs i (pos 0))
+value_fits vs i t = fits_size w32 (get_or vs i (pos 0)) (omega (arith, within_at most_value vs i t))
+
+pub value_small : (vs : List ℤ) (i : ℕ) → T (all_within most_value vs)
+    → nat_abs (to_z w32 (of_z w32 (get_or vs i (pos 0)))) ≤ most_value
+value_small vs i t = again w32 (value_fits vs i t) (within_at most_value vs i t)

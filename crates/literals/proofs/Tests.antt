@@ -1,11 +1,11 @@
 -- The tests of literals as the machine makes them, at signed numbers of 64 bits.
 -- Assumes nothing.
 use mathlib.Core.Path.{◌≡◌, refl, sym, ap, ◌∙◌}
-use mathlib.Core.Bool.{Bool, true, false, not, beq}
+use mathlib.Core.Bool.{Bool, true, false, not}
 use Prim.Native.Nat.{ℕ, zero, suc, ◌%◌, ◌^◌, ◌<◌, ◌≤◌}
 use native.Mathlib.Nat.{mod-le}
 use native.Mathlib.Omega.{arith}
-use borrow.Author.Tests.{eq-eqb, ne_eqb}
+use borrow.Author.Tests.{ne_eqb}
 use lib.Dec.{T, eqb, leb, leb→le}
 use lib.IntN.{ℤ, pos, negsuc, neg_ℤ, nat_abs}
 use lib.Signed.{lt_z, quot_z, rem_z}
@@ -83,27 +83,18 @@ module _ {kind k : ℕ} {z : ℤ} (f : SFits w64 z) where
   passes_zero e (divisible false d) m = absurd (omega (arith, m.same_kind))
   passes_zero e is_zero m = zero_bits z f
 
-  pub passes_divisible : ¬ (kind ≡ 5) → ¬ (kind ≡ 10) → {r : Bool} → r ≡ divides k (to_z w64 (of_z w64 z))
-      → (t : Test) → Marked kind k t → beq r (eqb kind 6) ≡ passes t z
-  passes_divisible n5 n10 {r} e t m =
-      ap (λ (b : Bool). beq b (eqb kind 6)) (e ∙ ap (divides k) (to_z-of_z f)) ∙ by t m
+  pub passes_divided : kind ≡ 6 → {r : Bool} → r ≡ divides k (to_z w64 (of_z w64 z))
+      → (t : Test) → Marked kind k t → r ≡ passes t z
+  passes_divided six e t m = e ∙ ap (divides k) (to_z-of_z f) ∙ divided_is z six t m
+
+  pub passes_undivided : ¬ (kind ≡ 5) → ¬ (kind ≡ 10) → ¬ (kind ≡ 6) → {r : Bool} → r ≡ divides k (to_z w64 (of_z w64 z))
+      → (t : Test) → Marked kind k t → not r ≡ passes t z
+  passes_undivided n5 n10 n6 {r} e t m = ap not (e ∙ ap (divides k) (to_z-of_z f)) ∙ by t m
     where
-      six : (b : Bool) → beq b true ≡ b
-      six true = refl
-      six false = refl
-
-      seven : (b : Bool) → beq b false ≡ not b
-      seven true = refl
-      seven false = refl
-
-      by : (t : Test) → Marked kind k t → beq (divides k z) (eqb kind 6) ≡ passes t z
+      by : (t : Test) → Marked kind k t → not (divides k z) ≡ passes t z
       by positive m = absurd (n5 m.same_kind)
-      by (divisible true d) m =
-          ap (beq (divides k z)) (eq-eqb kind 6 m.same_kind) ∙ six (divides k z)
-          ∙ divided_is z m.same_kind (divisible true d) m
-      by (divisible false d) m =
-          ap (beq (divides k z)) (ne_eqb kind 6 (λ six. omega (arith, m.same_kind))) ∙ seven (divides k z)
-          ∙ undivided_is z m.same_kind (divisible false d) m
+      by (divisible true d) m = absurd (n6 m.same_kind)
+      by (divisible false d) m = undivided_is z m.same_kind (divisible false d) m
       by is_zero m = absurd (n10 m.same_kind)
 
 -- a kind that is neither has a divisor, from 1 to the limit

@@ -1,19 +1,37 @@
 -- What becomes of a literal in a step that keeps the shape of the body: nothing, or it is scaled, or a sum u is put in
 -- for the setting x, in the far-left body or in the full one.
 -- Assumes nothing.
-use Rattle.std.specs.Prelude.{◌≡◌, List, ℕ, ◌≤◌, T, ℤ, pos, length}
-use Rattle.rules.specs.Sum.{Sum, factor, scale, put, limit, all_within}
+use Rattle.std.specs.Prelude.{◌≡◌, Bool, Option, Some, None, List, ℕ, ◌≤◌, T, ℤ, pos, length}
+use Rattle.rules.specs.Sum.{Sum, number, factor, scale, put, limit, all_within}
 use Rattle.rules.specs.Rule.{Test, positive, divisible, is_zero, Rule, Constant, Literal}
 use Rattle.rules.specs.Steps.{multiplier, times, sign, scale_literal, far_literal, sum_at, body_at}
 use Rattle.rules.specs.Eliminate.{most_period}
 use Rattle.literals.specs.Literal.{SomeLiteral}
 use Rattle.literals.specs.Rows.{most_put}
-use Rattle.literals.specs.declared.change.Change.{Change}
-use Rattle.literals.specs.declared.change.Change.TheVariants.{Same, Scaled, Far, Full}
-use Rattle.literals.specs.declared.change.Settled.{Settled}
-use Rattle.literals.specs.declared.change.Settled.TheVariants.{Yes, No}
+use Rattle.literals.specs.declared.change.Change.{Change as Put}
+use Rattle.literals.specs.declared.change.Change.TheVariants.{Same as PutSame, Scaled as PutScaled, Far as PutFar, Full as PutFull}
 use Rattle.literals.specs.declared.row.Row.{Row}
 use Rattle.literals.specs.declared.row.Row.TheVariants.{Times, Plus}
+
+-- nothing; scaled to the common factor D for the setting x; u put in for x, in the far-left body or in the full one
+pub data Change : Type 0 where
+  Same : Change
+  Scaled : (D x : ℕ) → Change
+  Far : (x : ℕ) → Change
+  Full : (x : ℕ) → Change
+
+-- the change that the code names, and the sum that it puts in; 0 where it puts in none
+abbrev pub change_of : Put → Change
+change_of PutSame = Same
+change_of (PutScaled D x) = Scaled D x
+change_of (PutFar x u) = Far x
+change_of (PutFull x u) = Full x
+
+abbrev pub put_of : Put → Sum
+put_of PutSame = number (pos 0)
+put_of (PutScaled D x) = number (pos 0)
+put_of (PutFar x u) = u.now
+put_of (PutFull x u) = u.now
 
 -- what becomes of the literal that makes the test t of the sum s
 unfoldable pub becomes : Change → Sum → Test → Sum → Rule
@@ -61,18 +79,18 @@ divisor_or_none (divisible b k) = k
 divisor_or_none is_zero = 0
 
 -- whatever sum is put in, the change makes this truth value of the literal, or leaves it one
-unfoldable pub Settles : Change → Test → Sum → Settled → Type 0
+unfoldable pub Settles : Change → Test → Sum → Option Bool → Type 0
 unfolding becomes changed_sum changed_test
-Settles c t s (Yes v) = (u : Sum) → becomes c u t s ≡ Constant v
-Settles c t s No = (u : Sum) → becomes c u t s ≡ Literal (changed_test c s t) (changed_sum c u s)
+Settles c t s (Some v) = (u : Sum) → becomes c u t s ≡ Constant v
+Settles c t s None = (u : Sum) → becomes c u t s ≡ Literal (changed_test c s t) (changed_sum c u s)
 
 -- what it does to each word
-unfoldable pub row_of : Change → Sum → Row
+unfoldable pub row_of : Put → Sum → Row
 unfolding multiplier
-row_of Same s = Times 7 (pos 0) 1
-row_of (Scaled D x) s = Times x (sign (factor x s)) (multiplier D x s)
-row_of (Far x) s = Plus x (factor x s)
-row_of (Full x) s = Plus x (factor x s)
+row_of PutSame s = Times 7 (pos 0) 1
+row_of (PutScaled D x) s = Times x (sign (factor x s)) (multiplier D x s)
+row_of (PutFar x u) s = Plus x (factor x s) u
+row_of (PutFull x u) s = Plus x (factor x s) u
 
 -- some literal stands there, and what becomes of it is a literal whose numbers lie within the limit
 pub record SomeChanged (ws : List ℤ) (c : Change) (u : Sum) : Type 0 where

@@ -6,10 +6,10 @@ use Rattle.rules.specs.Eliminate.{most_period}
 use Rattle.literals.specs.declared.row.Row.{Row}
 use Rattle.literals.specs.declared.row.Row.TheVariants.{Times, Plus}
 
--- word i, which was a, where word i of u is b
-unfoldable pub row_word : Row → ℕ → ℤ → ℤ → ℤ
-row_word (Times x g m) i a b = cond (eqb i x) g (pos m *ℤ a)
-row_word (Plus x f) i a b = cond (eqb i x) (pos 0) a +ℤ f *ℤ b
+-- word i, which was a
+unfoldable pub row_word : Row → ℕ → ℤ → ℤ
+row_word (Times x g m) i a = cond (eqb i x) g (pos m *ℤ a)
+row_word (Plus x f u) i a = cond (eqb i x) (pos 0) a +ℤ f *ℤ get_or u.now i (pos 0)
 
 -- the size of a word of 32 bits
 abbrev pub most_word : ℕ
@@ -22,22 +22,20 @@ most_put = 2147487744
 -- no product of the row passes 64 bits
 abbrev pub Tame : Row → Type 0
 Tame (Times x g m) = m ≤ most_period
-Tame (Plus x f) = nat_abs f ≤ most_word
+Tame (Plus x f u) = (nat_abs f ≤ most_word) × T (all_within most_put u.now)
 
 -- the words of the sum z are what the row makes of the seven from word `at` on
-pub record Makes (row : Row) (ws : List ℤ) (at : ℕ) (u z : Sum) : Type 0 where
+pub record Makes (row : Row) (ws : List ℤ) (at : ℕ) (z : Sum) : Type 0 where
   pub seven : length z ≡ 7
-  pub each : (i : ℕ) → i < 7 → get_or z i (pos 0) ≡ row_word row i (get_or ws (at + i) (pos 0)) (get_or u i (pos 0))
+  pub each : (i : ℕ) → i < 7 → get_or z i (pos 0) ≡ row_word row i (get_or ws (at + i) (pos 0))
 
 -- what reading a changed word asks
-pub record Readable (row : Row) (ws : List ℤ) (at : ℕ) (u : Sum) : Type 0 where
+pub record Readable (row : Row) (ws : List ℤ) (at : ℕ) : Type 0 where
   pub long : at + 7 ≤ length ws
-  pub seven : length u ≡ 7
-  pub small : T (all_within most_put u)
   pub tame : Tame row
 
 -- the changed sum lies within the limit
-pub record SomeWithin (row : Row) (ws : List ℤ) (at : ℕ) (u : Sum) : Type 0 where
+pub record SomeWithin (row : Row) (ws : List ℤ) (at : ℕ) : Type 0 where
   pub made : Sum
-  pub makes : Makes row ws at u made
+  pub makes : Makes row ws at made
   pub within : T (all_within limit made)

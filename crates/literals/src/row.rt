@@ -10,35 +10,15 @@ ghost use Rattle.literals.specs.Rows.{row_word, most_word, most_put, Makes, Read
 
 use tables::words;
 
-// What becomes of every word. Times(x, sign, m): that of x is the sign, any other is taken m times. Plus(x, f): that of
-// x is 0, any other stays, and then f times the word of another sum is added.
+// "c and the a's lie within ±2,147,483,647", and a divisor too.
+pub const LIMIT: usize = 2147483647;
+
+// What becomes of every word, and no step to be run. Times(x, sign, m): that of x is the sign, any other is taken m times. Plus(x, f, u): that
+// of x is 0, any other stays, and then f times the word of u is added.
 #[derive(Clone, Copy)]
-pub enum Row {
+pub enum Row<'a> {
     Times(usize, i64, usize),
-    Plus(usize, i64),
-}
-
-// 1, -1 or 0.
-pub fn sign(f: i64) -> i64
-    ensures { result ≡ sign_of f }
-{
-    if f < 0 {
-        return -1;
-    }
-    if 0 < f {
-        return 1;
-    }
-    0
-}
-
-fn size(f: i64) -> usize
-    requires { nat_abs f ≤ most_word }
-    ensures { result ≡ nat_abs f }
-{
-    if f < 0 {
-        return (0 - f) as usize;
-    }
-    f as usize
+    Plus(usize, i64, &'a [i64; 7]),
 }
 
 // What a literal with the factor f is multiplied by, so that the factor comes to the common one.
@@ -46,11 +26,10 @@ pub fn multiplier(common: usize, f: i64) -> usize
     requires { (nat_abs f ≤ most_word) × (common ≤ most_period) }
     ensures { (result ≡ cond (not (eq_ℤ f (pos 0))) (common / nat_abs f) 1) × (result ≤ most_period) }
 {
-    let by = size(f);
-    if by == 0 {
+    if f == 0 {
         return 1;
     }
-    common / by
+    common / f.unsigned_abs() as usize
 }
 
 // Word i of the table.
@@ -81,23 +60,15 @@ fn plus(a: i64, i: usize, x: usize, f: i64, b: i64) -> i64
     a + f * b
 }
 
-fn put(u: &[i64], i: usize) -> i64
-    requires { i < length u.now }
-    ensures { result ≡ get_or u.now i (pos 0) }
-{
-    u[i]
-}
-
 // Word i of what becomes of the sum whose seven words stand from word `at` on.
-fn word(b: &[u8], at: usize, i: usize, row: Row, u: &[i64]) -> i64
-    requires { Readable row (words_of b.now) at u.now × (i < 7) }
-    ensures { result ≡ row_word row i (get_or (words_of b.now) (at + i) (pos 0))
-        (get_or u.now i (pos 0)) }
+fn word(b: &[u8], at: usize, i: usize, row: Row) -> i64
+    requires { Readable row (words_of b.now) at × (i < 7) }
+    ensures { result ≡ row_word row.entry i (get_or (words_of b.now) (at + i) (pos 0)) }
 {
     let a = term(b, at + i);
     match row {
         Row::Times(x, sign, m) => times(a, i, x, sign, m),
-        Row::Plus(x, f) => plus(a, i, x, f, put(u, i)),
+        Row::Plus(x, f, u) => plus(a, i, x, f, u[i]),
     }
 }
 
@@ -105,52 +76,31 @@ fn word(b: &[u8], at: usize, i: usize, row: Row, u: &[i64]) -> i64
 fn within(z: i64) -> bool
     ensures { result ≡ within_of limit z }
 {
-    if z < -2147483647 {
-        return false;
-    }
-    if 2147483647 < z {
-        return false;
-    }
-    true
+    z.unsigned_abs() <= LIMIT as u64
 }
 
 // Whether all seven words do.
-pub fn all_within(b: &[u8], at: usize, row: Row, u: &[i64]) -> bool
-    requires { Readable row (words_of b.now) at u.now }
-    ensures { (z : Sum) → Makes row (words_of b.now) at u.now z
+pub fn all_within(b: &[u8], at: usize, row: Row) -> bool
+    requires { Readable row (words_of b.now) at }
+    ensures { (z : Sum) → Makes row.entry (words_of b.now) at z
         → result ≡ all_within limit z }
 {
-    let mut i: usize = 0;
-    while i < 7 {
-        if !within(word(b, at, i, row, u)) {
+    for i in 0..7 {
+        if !within(word(b, at, i, row)) {
             return false;
         }
-        i += 1;
     }
     true
 }
 
-// Word i, where all lie within the limit.
-fn narrow(b: &[u8], at: usize, i: usize, row: Row, u: &[i64]) -> i32
-    requires { Readable row (words_of b.now) at u.now × (i < 7) × SomeWithin row (words_of b.now) at u.now }
-    ensures { result ≡ row_word row i (get_or (words_of b.now) (at + i) (pos 0))
-        (get_or u.now i (pos 0)) }
-{
-    word(b, at, i, row, u) as i32
-}
-
 // All seven, where they do.
-pub fn made(b: &[u8], at: usize, row: Row, u: &[i64]) -> [i32; 7]
-    requires { Readable row (words_of b.now) at u.now × SomeWithin row (words_of b.now) at u.now }
-    ensures { (z : Sum) → Makes row (words_of b.now) at u.now z → result ≡ z }
+pub fn made(b: &[u8], at: usize, row: Row) -> [i32; 7]
+    requires { Readable row (words_of b.now) at × SomeWithin row (words_of b.now) at }
+    ensures { (z : Sum) → Makes row.entry (words_of b.now) at z → result ≡ z }
 {
-    [
-        narrow(b, at, 0, row, u),
-        narrow(b, at, 1, row, u),
-        narrow(b, at, 2, row, u),
-        narrow(b, at, 3, row, u),
-        narrow(b, at, 4, row, u),
-        narrow(b, at, 5, row, u),
-        narrow(b, at, 6, row, u),
-    ]
+    let mut made = [0; 7];
+    for (i, m) in made.iter_mut().enumerate() {
+        *m = word(b, at, i, row) as i32;
+    }
+    made
 }

@@ -1,4 +1,4 @@
 pub mod Values
-pub mod Shapes
+pub mod RuleKinds
 pub mod WalkLaws
 pub mod MatchedLaws

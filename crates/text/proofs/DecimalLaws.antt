@@ -3,16 +3,16 @@
 use mathlib.Core.Path.{◌≡◌, refl, sym, ◌∙◌, ap}
 use mathlib.Core.Bool.{Bool, true, false}
 use mathlib.Core.List.{List, [], ◌∷◌, ◌++◌}
-use Prim.Native.Nat.{ℕ, zero, suc, ◌+◌, ◌-◌, ◌/◌, ◌%◌, ◌^◌, ◌<◌, ◌≤◌}
+use Prim.Native.Nat.{ℕ, zero, suc, ◌+◌, ◌/◌, ◌%◌, ◌^◌, ◌<◌, ◌≤◌}
 use native.Mathlib.Nat.{div-lt_iff_lt-mul}
-use native.Mathlib.Numerals.{add-one}
 use native.Mathlib.Omega.{arith}
 use borrow.Author.Tests.{lt-ltb, le-ltb, ltb-true, ltb-false}
 use lib.Dec.{ltb}
+use lib.IntN.{ℤ, pos, negsuc, nat_abs}
+use lib.Signed.{lt_z}
+use mir.Syntax.{w32}
+use mir.Val.{SFits}
 use lib.ListN.{length, length-append}
-use Rattle.rules.specs.Calls.{signed}
-use Rattle.tables.proofs.WordLaws.{signed_low, signed_high}
-use Rattle.text.proofs.PlacedLaws.{placed_then}
 use Rattle.text.specs.Decimal.{digit, spelled, decimal, number}
 
 -- ---- the tenth and the last digit
@@ -40,9 +40,11 @@ enough (suc most) (suc other) n h k = go (ltb n 10) refl (λ b. enough most othe
         spelled_more most n more ∙ ap (λ (s : List ℕ). s ++ (digit (n % 10) ∷ [])) (f more)
         ∙ sym (spelled_more other n more)
 
-pub one_digit : (n : ℕ) → n < 10 → decimal n ≡ digit n ∷ []
+pub one_digit : (n : ℕ) → n < 10 → decimal n ≡ digit (n % 10) ∷ []
 unfolding decimal
-one_digit n h = spelled_one n n h
+one_digit n h =
+    let same : n ≡ n % 10 = omega arith in
+    spelled_one n n h ∙ ap (λ (d : ℕ). digit d ∷ []) same
 
 pub more_digits : (n : ℕ) → 10 ≤ n → decimal n ≡ decimal (n / 10) ++ (digit (n % 10) ∷ [])
 unfolding decimal
@@ -70,25 +72,19 @@ few_digits (suc k) n h =
 pub few_of_word : (n : ℕ) → n < 4294967296 → length (decimal n) ≤ 10
 few_of_word n h = few_digits 9 n (omega arith)
 
--- ---- the number that has some 32 bits
+-- ---- a number by its sign; v is z as the code holds it
 
-pub number_low : (u : ℕ) → u < 2147483648 → number (signed u) ≡ decimal u
+pub number_from : (v : ℤ) {z : ℤ} → v ≡ z → lt_z v (pos 0) ≡ false → number z ≡ decimal (nat_abs v)
 unfolding number
-number_low u h = ap number (signed_low u h)
+number_from (pos n) e h = ap number (sym e)
+number_from (negsuc n) e h = absurd (cc)
 
-pub number_high : (u : ℕ) → 2147483648 ≤ u → number (signed u) ≡ (45 ∷ []) ++ decimal (4294967295 - u + 1)
+pub number_under : (v : ℤ) {z : ℤ} → v ≡ z → lt_z v (pos 0) ≡ true → number z ≡ (45 ∷ []) ++ decimal (nat_abs v)
 unfolding number
-number_high u h =
-    ap number (signed_high u h) ∙ ap (λ (n : ℕ). 45 ∷ decimal n) (sym (add-one (4294967295 - u)))
+number_under (pos n) e h = absurd (omega (arith, ltb-true n 0 h))
+number_under (negsuc n) e h = ap number (sym e)
 
-pub few_of_bits : (u : ℕ) → u < 4294967296 → length (number (signed u)) ≤ 11
-few_of_bits u h = go (ltb u 2147483648) refl
-  where
-    go : (b : Bool) → ltb u 2147483648 ≡ b → length (number (signed u)) ≤ 11
-    go true e = omega (arith, ap length (number_low u (ltb-true u 2147483648 e)), few_of_word u h)
-    go false e =
-        let high = ltb-false u 2147483648 e in
-        omega (arith, ap length (number_high u high), few_of_word (4294967295 - u + 1) (omega arith))
-
--- a number by the sign that its bits tell, and text put behind text
-pub ruleset by_sign = (number_low, number_high, placed_then)
+pub few_of_whole : (z : ℤ) → SFits w32 z → length (number z) ≤ 11
+unfolding number
+few_of_whole (pos n) f = omega (arith, few_of_word n (omega (arith, f.sfits)))
+few_of_whole (negsuc n) f = omega (arith, few_of_word (suc n) (omega (arith, f.sfits)))

@@ -2,21 +2,42 @@
 -- Assumes nothing.
 use mathlib.Core.Path.{◌≡◌, refl, sym, ◌∙◌, ap}
 use mathlib.Core.List.{List, [], ◌∷◌, ◌++◌, append_assoc, append-nil}
-use Prim.Native.Nat.{ℕ, ◌+◌, ◌<◌, ◌≤◌}
+use Prim.Native.Nat.{ℕ, ◌+◌, ◌*◌, ◌<◌, ◌≤◌, ◌^◌}
 use native.Mathlib.Numerals.{add-one}
 use native.Mathlib.Omega.{arith}
 use lib.IntN.{ℤ, pos}
 use lib.ListN.{length, get_or, take}
 use lib.Seq.{take-suc, take_all}
-use Rattle.rules.specs.Calls.{signed}
+use mir.Syntax.{w32, w64}
+use mir.Val.{SFits, to_z, of_z}
+use mir.Facts.{to_z-of_z, sfits_widen}
 use Rattle.text.specs.Decimal.{decimal, number}
 use Rattle.text.specs.Lines.{spaced, line}
-use Rattle.text.specs.Placed.{Placed}
-use Rattle.text.proofs.PlacedLaws.{placed_none, placed_then, placed_as}
+use Rattle.text.specs.Placed.{Puts}
+use Rattle.text.specs.declared.lent.Text.{Text}
+use Rattle.text.proofs.PlacedLaws.{puts_none, puts_then, puts_as, puts_left}
+use Rattle.text.proofs.DecimalLaws.{few_of_word, few_of_whole}
+
+-- ---- one number behind a space
 
 pub spaced_one : (z : ℤ) → (32 ∷ []) ++ number z ≡ spaced (z ∷ [])
 unfolding spaced
 spaced_one z = ap (λ (s : List ℕ). 32 ∷ s) (sym (append-nil (number z)))
+
+pub length_spaced : (z : ℤ) → length (spaced (z ∷ [])) ≡ 1 + length (number z)
+length_spaced z = omega (arith, ap length (sym (spaced_one z)))
+
+pub few_behind_word : (n : ℕ) → n < 2 ^ 32 → length (spaced (pos n ∷ [])) ≤ 11
+unfolding number
+few_behind_word n h = omega (arith, length_spaced (pos n), few_of_word n h)
+
+pub few_behind_whole : (z : ℤ) → SFits w32 z → length (spaced (z ∷ [])) ≤ 12
+few_behind_whole z f = omega (arith, length_spaced z, few_of_whole z f)
+
+-- a word, as it is handed on in 64 bits
+pub word_again : {y z : ℤ} → SFits w32 z → y ≡ to_z w32 (of_z w32 z) → to_z w64 (of_z w64 y) ≡ z
+word_again f e =
+    ap (λ (x : ℤ). to_z w64 (of_z w64 x)) (e ∙ to_z-of_z f) ∙ to_z-of_z {w = w64} (sfits_widen tt f)
 
 spaced_append : (ws vs : List ℤ) → spaced (ws ++ vs) ≡ spaced ws ++ spaced vs
 unfolding spaced
@@ -25,36 +46,30 @@ spaced_append (w ∷ ws) vs =
     ap (λ (s : List ℕ). (32 ∷ number w) ++ s) (spaced_append ws vs)
     ∙ sym (append_assoc (32 ∷ number w) (spaced ws) (spaced vs))
 
--- no number behind the first is put
-pub none_put : {l : List ℕ} {at : ℕ} → Placed l at (spaced []) l at
-unfolding spaced
-none_put = placed_none
+-- ---- of a line's numbers, behind its first, i are put: each with at most k characters
+pub record NumbersPut (k : ℕ) (ws : List ℤ) (i : ℕ) (a b : Text) : Type 0 where
+  pub puts : Puts a (spaced (take i ws)) b
+  pub short : b.at ≤ a.at + k * i
+  pub long : length b.bytes.now ≡ length a.bytes.now
 
-module _ {l : List ℕ} {at : ℕ} (ws : List ℤ) (i : ℕ) where
-  -- one more number behind those that are put
-  pub one_more : {m k : List ℕ} {p q : ℕ} (u : ℕ) → i < length ws → get_or ws i (pos 0) ≡ signed u
-      → Placed l at (spaced (take i ws)) m p → Placed m p (spaced (signed u ∷ [])) k q
-      → Placed l at (spaced (take (i + 1) ws)) k q
-  one_more u h e f g =
-      let here = ap (λ (z : ℤ). take i ws ++ (z ∷ [])) e in
+pub none_put : {k : ℕ} {ws : List ℤ} {a : Text} → NumbersPut k ws 0 a a
+unfolding spaced
+none_put = record { puts = puts_none; short = omega arith; long = refl }
+
+module _ {k : ℕ} {ws : List ℤ} {i : ℕ} {a b : Text} (f : NumbersPut k ws i a b) where
+  pub one_more : {c : Text} (z : ℤ) → i < length ws → get_or ws i (pos 0) ≡ z → Puts b (spaced (z ∷ [])) c
+      → length (spaced (z ∷ [])) ≤ k → NumbersPut k ws (i + 1) a c
+  one_more z h e g few =
+      let here = ap (λ (y : ℤ). take i ws ++ (y ∷ [])) e in
       let all = ap (λ (n : ℕ). take n ws) (add-one i) ∙ take-suc ws i (pos 0) h ∙ here in
-      placed_as (sym (ap spaced all ∙ spaced_append (take i ws) (signed u ∷ []))) (placed_then f g)
+      record {
+        puts = puts_as (puts_then f.puts g) (sym (ap spaced all ∙ spaced_append (take i ws) (z ∷ [])));
+        short = omega (arith, f.short, g.placed.ends, few);
+        long = omega (arith, f.long, puts_left g);
+      }
 
   -- the first number, the others and the end
-  pub all_put : {m k o : List ℕ} {p q r : ℕ} (n : ℕ) → length ws ≤ i → Placed l at (decimal n) m p
-      → Placed m p (spaced (take i ws)) k q → Placed k q (10 ∷ []) o r → Placed l at (line (pos n) ws) o r
+  pub all_put : {o d : Text} (n : ℕ) → length ws ≤ i → Puts o (decimal n) a → Puts b (10 ∷ []) d
+      → Puts o (line (pos n) ws) d
   unfolding line number
-  all_put n h f g e =
-      placed_then (placed_then f (placed_as (ap spaced (take_all i ws h)) g)) e
-
--- a line of four
-pub four_put : {l a b c d e : List ℕ} {at p q r s t : ℕ} (n v w z : ℕ) → Placed l at (decimal n) a p
-    → Placed a p (spaced (pos v ∷ [])) b q → Placed b q (spaced (pos w ∷ [])) c r
-    → Placed c r (spaced (pos z ∷ [])) d s → Placed d s (10 ∷ []) e t
-    → Placed l at (line (pos n) (pos v ∷ pos w ∷ pos z ∷ [])) e t
-four_put n v w z f g h i j =
-    let all : List ℤ = pos v ∷ pos w ∷ pos z ∷ [] in
-    let apart : spaced all ≡ spaced (pos v ∷ []) ++ (spaced (pos w ∷ []) ++ spaced (pos z ∷ [])) =
-    spaced_append (pos v ∷ []) (pos w ∷ pos z ∷ [])
-    ∙ ap (λ (t : List ℕ). spaced (pos v ∷ []) ++ t) (spaced_append (pos w ∷ []) (pos z ∷ [])) in
-    all_put all 3 n (omega arith) f (placed_as (sym apart) (placed_then g (placed_then h i))) j
+  all_put n h g e = puts_then (puts_then g (puts_as f.puts (ap spaced (take_all i ws h)))) e

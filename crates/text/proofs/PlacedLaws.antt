@@ -7,7 +7,8 @@ use native.Mathlib.Nat.{add-zero}
 use native.Mathlib.Omega.{arith}
 use lib.ListN.{length, set, length-append}
 use lib.Seq.{sets, length-sets}
-use Rattle.text.specs.Placed.{Placed}
+use Rattle.text.specs.Placed.{Placed, Puts}
+use Rattle.text.specs.declared.lent.Text.{Text}
 
 sets_append : (s t l : List ℕ) (i : ℕ) → sets (sets l i s) (i + length s) t ≡ sets l i (s ++ t)
 sets_append [] t l i = ap (λ (k : ℕ). sets l k t) (add-zero i)
@@ -36,3 +37,21 @@ module _ {l : List ℕ} {at : ℕ} where
   -- any two outcomes that a promise admits are equal
   pub placed_once : {s m k : List ℕ} {p q : ℕ} → Placed l at s m p → Placed l at s k q → (m ≡ k) × (p ≡ q)
   placed_once f g = (f.puts ∙ sym g.puts, f.ends ∙ sym g.ends)
+
+-- nothing is put
+pub puts_none : {a : Text} → Puts a [] a
+puts_none = record { placed = placed_none; same_reference = refl }
+
+module _ {a b : Text} {s : List ℕ} (f : Puts a s b) where
+  pub puts_then : {c : Text} {t : List ℕ} → Puts b t c → Puts a (s ++ t) c
+  puts_then g = record {
+    placed = placed_then f.placed g.placed;
+    same_reference = g.same_reference ∙ f.same_reference;
+  }
+
+  pub puts_as : {t : List ℕ} → s ≡ t → Puts a t b
+  puts_as e = record { placed = placed_as e f.placed; same_reference = f.same_reference }
+
+  -- what is left of the lent bytes
+  pub puts_left : (length b.bytes.now ≡ length a.bytes.now) × (b.at ≡ a.at + length s)
+  puts_left = (placed_length f.placed, f.placed.ends)

@@ -2,5 +2,5 @@
 #![tactic(auto)]
 
 pub mod decimal;
+pub mod lent;
 pub mod lines;
-mod put;

@@ -13,7 +13,7 @@ use Rattle.judging.proofs.TakenLaws.{none_taken, one_taken, all_taken}
 use Rattle.judging.proofs.literal.one_by_one.Goals as goal
 
 pub loop-i-init : goal.loop-i-init
-loop-i-init c = (omega arith, λ t marked. none_taken _)
+loop-i-init c = λ t marked. none_taken _
 
 pub overflow_cast-i : goal.overflow_cast-i
 overflow_cast-i c = fits_size w64 (pos c.loop-i.i) (omega arith)
@@ -41,25 +41,17 @@ passes-requires c = (
 pub with-m-requires : goal.with-m-requires
 with-m-requires c = omega arith
 
-pub overflow_add-i : goal.overflow_add-i
-overflow_add-i c = omega arith
-
-pub loop-i-smaller : goal.loop-i-smaller
-loop-i-smaller c = omega arith
-
 pub loop-i-preserved : goal.loop-i-preserved
 loop-i-preserved c =
-    let i = c.loop-i.i in (
-      omega arith,
-      λ t marked. one_taken (λ n. passes t (read c.args.c +ℤ read c.args.f *ℤ pos n)) _ i _ _
-          (c.loop-i.invariant.1 t marked) (omega arith)
-          (c.passes.ensures t marked
-          ∙ ap (passes t) (sum_again c.ranges.f (fits_size w64 (pos i) (omega arith)) {p = 64}
-          c.requires.2 (omega arith) c.ranges.c c.requires.1 (omega arith)))
-          c.with-m.ensures,
-    )
+    let i = c.loop-i.i in
+    λ t marked. one_taken (λ n. passes t (read c.args.c +ℤ read c.args.f *ℤ pos n)) _ i _ _
+    (c.loop-i.invariant t marked) (omega arith)
+    (c.passes.ensures t marked
+    ∙ ap (passes t) (sum_again c.ranges.f (fits_size w64 (pos i) (omega arith)) {p = 64}
+    c.requires.2 (omega arith) c.ranges.c c.requires.1 (omega arith)))
+    c.with-m.ensures
 
 pub returns : goal.returns
 returns c = λ t marked k h.
-    all_taken _ _ _ (c.loop-i.invariant.1 t marked) c.loop-i-test.false k h
+    all_taken _ _ _ (c.loop-i.invariant t marked) c.loop-i-test.false k h
     ∙ ap₂ (λ (y z : ℤ). flag (passes t (y +ℤ z *ℤ pos k))) (to_z-of_z c.ranges.c) (to_z-of_z c.ranges.f)

@@ -9,7 +9,7 @@ use Rattle.judging.proofs.FactorLaws.{none_seen, one_seen, none_more, none_left}
 use Rattle.judging.proofs.literal.varies.Goals as goal
 
 pub loop-i-init : goal.loop-i-init
-loop-i-init c = (omega arith, omega arith, none_seen _ _ _ _)
+loop-i-init c = none_seen _ _ _ _
 
 pub moved-requires : goal.moved-requires
 moved-requires c =
@@ -24,25 +24,15 @@ moved-requires c =
 
 pub returns-then-moved-ne0 : goal.returns-then-moved-ne0
 returns-then-moved-ne0 c = λ z m.
-    one_seen _ _ _ _ c.loop-i.invariant.0 c.loop-i.invariant.2 c.loop-i-test.true
+    one_seen _ _ _ _ c.loop-i.auto.i c.loop-i.invariant c.loop-i-test.true
     (sfits_of {z = c.moved.result} c.moved.type_inv) c.moved.ensures.0 c.if-moved-ne0.true
     (to_z-of_z c.ranges.f) z m
 
-pub overflow_add-i : goal.overflow_add-i
-overflow_add-i c = omega arith
-
-pub loop-i-smaller : goal.loop-i-smaller
-loop-i-smaller c = omega arith
-
 pub loop-i-preserved : goal.loop-i-preserved
-loop-i-preserved c = (
-  omega arith,
-  omega arith,
-  none_more _ _ _ _ c.loop-i.invariant.0 c.loop-i.invariant.2 c.loop-i-test.true
-      (sfits_of {z = c.moved.result} c.moved.type_inv) c.moved.ensures.0 c.if-moved-ne0.false,
-)
+loop-i-preserved c =
+    none_more _ _ _ _ c.loop-i.auto.i c.loop-i.invariant c.loop-i-test.true
+    (sfits_of {z = c.moved.result} c.moved.type_inv) c.moved.ensures.0 c.if-moved-ne0.false
 
 pub returns : goal.returns
 returns c = λ z m.
-    let inv = c.loop-i.invariant in
-    none_left _ _ _ _ inv.0 inv.2 c.loop-i-test.false inv.1 (to_z-of_z c.ranges.f) z m
+    none_left _ _ _ _ c.loop-i.auto.i c.loop-i.invariant c.loop-i-test.false (omega arith) (to_z-of_z c.ranges.f) z m

@@ -33,8 +33,8 @@ multiplier-requires c = (
 pub overflow_mul-result : goal.overflow_mul-result
 overflow_mul-result c = product_fits c.multiplier.ensures.1 c.natural-k.ensures.0
 
-pub returns : goal.returns
-returns c = λ n t s l.
+pub returns-in-Scaled : goal.returns-in-Scaled
+returns-in-Scaled c = λ n t s l.
     let at = c.sum_at in
     let f = c.factor in
     let divided : ¬ (start_of t ≡ 1) = λ e. c.if-sum_at-eq1.false (at.ensures.0 n t s l ∙ e) in

@@ -1,15 +1,16 @@
--- `change::sum_at` meets its contract: where T starts is known by the kind.
+-- `change::sum_at` meets its contract.
 -- Assumes nothing.
-use native.Mathlib.Omega.{arith}
-use Rattle.literals.proofs.Literals.{literal_long, literal_start}
+use Rattle.rules.specs.Calls.{words}
+use Rattle.literals.proofs.KindNumbers.{literal_kinded, read_signed}
+use Rattle.literals.proofs.Literals.{literal_start}
 use Rattle.literals.proofs.change.sum_at.Goals as goal
 
-pub natural-requires : goal.natural-requires
-natural-requires c = omega (arith, literal_long c.requires)
+pub at-requires : goal.at-requires
+at-requires c = literal_kinded c.requires
 
 pub returns : goal.returns
 returns c =
-    let kind = c.natural.ensures.1 in
-    let some = c.requires in
-    let starts = c.start.ensures in
-    (λ n t s l. (literal_start t l kind starts).0, (literal_start some.test some.at kind starts).1)
+    let first = read_signed (words c.args.bodies.now) c.at.result c.at.ensures in (
+      λ n t s l. (literal_start t l first c.start.ensures).0,
+      (literal_start c.requires.test c.requires.at first c.start.ensures).1,
+    )

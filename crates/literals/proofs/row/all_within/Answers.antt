@@ -1,7 +1,6 @@
 -- `row::all_within` meets its contract: so far as they were seen, the words lie within the limit.
 -- Assumes nothing.
 use mathlib.Core.Path.{refl}
-use native.Mathlib.Omega.{arith}
 use borrow.Author.Rules.{sfits_of}
 use Rattle.literals.proofs.SumLaws.{one_over, one_within, all_seen}
 use mathlib.Core.Bool.{not}
@@ -9,7 +8,7 @@ use mathlib.Core.Path.{ap}
 use Rattle.literals.proofs.row.all_within.Goals as goal
 
 pub loop-i-init : goal.loop-i-init
-loop-i-init c = (omega arith, λ z m. refl)
+loop-i-init c = λ z m. refl
 
 pub word-requires : goal.word-requires
 word-requires c = (c.requires, c.loop-i-test.true)
@@ -17,21 +16,12 @@ word-requires c = (c.requires, c.loop-i-test.true)
 pub returns-then-not-within : goal.returns-then-not-within
 returns-then-not-within c = λ z m.
     one_over m c.loop-i-test.true (sfits_of {z = c.word.result} c.word.type_inv) c.word.ensures
-    c.within.ensures (c.loop-i.invariant.1 z m) (ap not c.if-not-within.true)
-
-pub overflow_add-i : goal.overflow_add-i
-overflow_add-i c = omega arith
-
-pub loop-i-smaller : goal.loop-i-smaller
-loop-i-smaller c = omega arith
+    c.within.ensures (c.loop-i.invariant z m) (ap not c.if-not-within.true)
 
 pub loop-i-preserved : goal.loop-i-preserved
-loop-i-preserved c = (
-  omega arith,
-  λ z m. one_within m c.loop-i-test.true (sfits_of {z = c.word.result} c.word.type_inv)
-      c.word.ensures
-      c.within.ensures (c.loop-i.invariant.1 z m) (ap not c.if-not-within.false),
-)
+loop-i-preserved c = λ z m.
+    one_within m c.loop-i-test.true (sfits_of {z = c.word.result} c.word.type_inv) c.word.ensures
+    c.within.ensures (c.loop-i.invariant z m) (ap not c.if-not-within.false)
 
 pub returns : goal.returns
-returns c = λ z m. all_seen m c.loop-i-test.false c.loop-i.invariant.0 (c.loop-i.invariant.1 z m)
+returns c = λ z m. all_seen m c.loop-i-test.false c.loop-i.auto.i-end (c.loop-i.invariant z m)

@@ -1,5 +1,4 @@
 use mathlib.Core.Path.{◌≡◌}
-use Prim.Native.Nat.{◌-◌, ◌≤◌}
 use lib.ListN.{drop}
 use Rattle.rules.specs.Sum.{Sum, limit, all_within}
 use Rattle.rules.specs.Calls.{words}
@@ -8,7 +7,4 @@ use Rattle.literals.proofs.row.all_within.Given as goal
 
 abbrev pub invariant-loop-i : goal.invariant-loop-i
 invariant-loop-i l =
-    (l.i ≤ 7) × ((z : Sum) → Makes l.row (words l.b) l.at l.u z → all_within limit z ≡ all_within limit (drop l.i z))
-
-abbrev pub decreases-loop-i : goal.decreases-loop-i
-decreases-loop-i l = 7 - l.i
+    (z : Sum) → Makes l.row (words l.b) l.at z → all_within limit z ≡ all_within limit (drop l.i z)

@@ -27,24 +27,23 @@ times-requires c =
 pub plus-requires : goal.plus-requires
 plus-requires c =
     let a = c.term-a in
-    let f : SFits w64 c.in-Plus.f = search rules in (
+    let f : SFits w64 c.in-Plus.f = search rules in
+    let tame = plus_tame c.in-Plus.is c.requires.0.tame in (
       subst⁻¹ (λ (z : ℤ). mag z < 2147483648) (to_z-of_z {w = w64} (sfits_of {z = a.result} a.type_inv)) a.ensures.1,
-      again w64 f (plus_tame c.in-Plus.is c.requires.0.tame),
-      put_small c.args.u.now _ (sfits_of {z = c.put.result} c.put.type_inv) c.put.ensures
-          c.requires.0.small,
+      again w64 f tame.0,
+      put_small c.in-Plus.u.now _ tame.1,
     )
 
 pub returns-in-Times : goal.returns-in-Times
 returns-in-Times c =
     let a = c.term-a in
     let g : SFits w64 c.in-Times.sign = search rules in
-    word_times c.in-Times.is _ _ g (sfits_of {z = a.result} a.type_inv)
+    word_times c.in-Times.is _ g (sfits_of {z = a.result} a.type_inv)
     (sfits_of {z = c.times.result} c.times.type_inv) c.times.ensures a.ensures.0
 
 pub returns-in-Plus : goal.returns-in-Plus
 returns-in-Plus c =
     let a = c.term-a in
-    let b = c.put in
     let f : SFits w64 c.in-Plus.f = search rules in
-    word_plus c.in-Plus.is _ f (sfits_of {z = a.result} a.type_inv) (sfits_of {z = b.result} b.type_inv)
-    (sfits_of {z = c.plus.result} c.plus.type_inv) c.plus.ensures a.ensures.0 b.ensures
+    word_plus c.in-Plus.is _ c.requires.0.tame f (sfits_of {z = a.result} a.type_inv)
+    (sfits_of {z = c.plus.result} c.plus.type_inv) c.plus.ensures a.ensures.0
