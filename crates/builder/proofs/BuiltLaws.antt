@@ -1,7 +1,8 @@
 -- A node put in front of those that were built, the size of what is built, and going back.
 -- Assumes nothing.
 use mathlib.Core.Path.{◌≡◌, refl, sym, ap, ◌∙◌, subst}
-use mathlib.Core.Bool.{Bool, true, false, cond}
+use mathlib.Core.Bool.{Bool, true, false}
+use mathlib.Core.Logic.{◌⊎◌, inl, inr}
 use mathlib.Core.List.{List, [], ◌∷◌, ◌++◌, append_assoc}
 use Prim.Native.Nat.{ℕ, ◌+◌, ◌<◌, ◌≤◌}
 use native.Mathlib.Omega.{arith}
@@ -11,6 +12,8 @@ use lib.ListN.{length, length-append}
 use Rattle.rules.specs.Rule.{Rule}
 use Rattle.rules.specs.Table.{Node, body, nodes, size}
 use Rattle.rules.proofs.Sizes.{total, words_pos, length_body, length_nodes, weight_is, size_is}
+use Rattle.tables.specs.Kinds.{number_of}
+use Rattle.tables.specs.declared.kind.Kind.{Kind}
 use Rattle.builder.specs.Built.{Ends, Built, Countable, Building, most_counted, unplaced}
 use Rattle.builder.specs.declared.push.State.{State}
 use Rattle.builder.proofs.EndLaws.{ends_none, ends_back}
@@ -29,10 +32,13 @@ built_more ws n u x d ds e counted ends =
     record { counted = omega arith; ends = subst (λ (y : List ℤ). Ends ws u (y ++ unplaced ds)) (sym e) ends }
 
 -- the words of a node of one of two kinds, which a truth value chooses
-pub either_body : (d : Bool → Node) (fields : List ℤ) (k₁ k₂ : ℤ) → body 0 (d true) ≡ k₁ ∷ fields
-    → body 0 (d false) ≡ k₂ ∷ fields → (c : Bool) (k : ℤ) → k ≡ cond c k₁ k₂ → body 0 (d c) ≡ k ∷ fields
-either_body d fields k₁ k₂ first second true k e = first ∙ ap (λ (v : ℤ). v ∷ fields) (sym e)
-either_body d fields k₁ k₂ first second false k e = second ∙ ap (λ (v : ℤ). v ∷ fields) (sym e)
+pub either_body : (d : Bool → Node) (fields : List ℤ) (k₁ k₂ : Kind) → body 0 (d true) ≡ pos (number_of k₁) ∷ fields
+    → body 0 (d false) ≡ pos (number_of k₂) ∷ fields → {c : Bool} {k : Kind}
+    → ((c ≡ true) × (k ≡ k₁)) ⊎ ((c ≡ false) × (k ≡ k₂)) → body 0 (d c) ≡ pos (number_of k) ∷ fields
+either_body d fields k₁ k₂ first second (inl (e, is)) =
+    ap (λ (b : Bool). body 0 (d b)) e ∙ first ∙ ap (λ (m : Kind). pos (number_of m) ∷ fields) (sym is)
+either_body d fields k₁ k₂ first second (inr (e, is)) =
+    ap (λ (b : Bool). body 0 (d b)) e ∙ second ∙ ap (λ (m : Kind). pos (number_of m) ∷ fields) (sym is)
 
 -- the right child of a node that has no number yet is given by its distance
 pub right_child : (k : ℤ) (n : ℕ) → k ∷ pos (0 + n) ∷ [] ≡ k ∷ pos n ∷ []

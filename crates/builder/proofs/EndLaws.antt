@@ -5,7 +5,7 @@ use mathlib.Core.List.{List, [], ◌∷◌, ◌++◌}
 use Prim.Native.Nat.{ℕ, suc, ◌+◌, ◌-◌, ◌<◌, ◌≤◌}
 use native.Mathlib.Omega.{arith}
 use lib.IntN.{ℤ, pos}
-use lib.ListN.{length, get_or, set, drop, length-set, length-append}
+use lib.ListN.{length, set, drop, length-set, length-append}
 use lib.Seq.{drop-length, drop-cons, get_or-set_same, drop-set-lt, lt-length-set, drop-drop, drop-append-add}
 use mir.Syntax.{w32}
 use mir.Val.{SFits}
@@ -85,23 +85,3 @@ ends_back ws u w x l e b =
       last = ap (λ (m : ℕ). drop m ws) (sym here) ∙ sym (drop-drop k (n - w) ws) ∙ ap (drop k) b.last
           ∙ drop-drop k (w - n) (x ++ l) ∙ ap (λ (m : ℕ). drop m (x ++ l)) there ∙ drop-append-add x l (u - n);
     }
-
--- ---- the words of a sum s, from the last to the first
-
-module _ (s ws : List ℤ) (u : ℕ) (l : List ℤ) where
-  pub sum_none : Ends ws u l → Ends ws u (drop (length s) s ++ l)
-  sum_none b = subst (λ (m : List ℤ). Ends ws u (m ++ l)) (sym (drop-length s)) b
-
-  pub sum_more : (i : ℕ) (v : ℤ) → 0 < i → i ≤ length s → v ≡ get_or s (i - 1) (pos 0)
-      → Ends ws u (v ∷ drop i s ++ l) → Ends ws u (drop (i - 1) s ++ l)
-  sum_more i v z g e b =
-      let up : suc (i - 1) ≡ i = omega arith in
-      let split = drop-cons s (i - 1) (pos 0) (omega arith) in
-      let rest = ap (λ (m : ℕ). get_or s (i - 1) (pos 0) ∷ drop m s) up in
-      let first = ap (λ (x : ℤ). x ∷ drop i s) (sym e) in
-      subst (λ (m : List ℤ). Ends ws u (m ++ l)) (sym (split ∙ rest ∙ first)) b
-
-  pub sum_all : (i : ℕ) → i ≤ 0 → Ends ws u (drop i s ++ l) → Ends ws u (s ++ l)
-  sum_all i z b =
-      let none : i ≡ 0 = omega arith in
-      subst (λ (k : ℕ). Ends ws u (drop k s ++ l)) none b

@@ -1,5 +1,5 @@
 // Words put in front of those that the end of a lent buffer holds. Past the room they are counted and not written.
-ghost use Rattle.std.specs.Prelude.{◌≡◌, List, ◌∷◌, ◌++◌, ◌+◌, ◌<◌, ◌≤◌, ℤ, pos, length, get_or};
+ghost use Rattle.std.specs.Prelude.{◌≡◌, List, ◌∷◌, ◌++◌, ◌+◌, ◌<◌, ◌≤◌, ℤ, pos, length};
 ghost use Rattle.rules.specs.Sum.{limit};
 ghost use Rattle.rules.specs.Calls.{words as words_of};
 ghost use Rattle.builder.specs.Built.{Ends, most_counted};
@@ -32,14 +32,6 @@ pub fn number(out: &mut [u8], used: usize, n: usize) -> usize
     used + 1
 }
 
-// Word i of a sum.
-pub fn at(sum: &[i32], i: usize) -> i32
-    requires { i < length sum.now }
-    ensures { result ≡ get_or sum.now i (pos 0) }
-{
-    sum[i]
-}
-
 // All words of a sum.
 pub fn given(out: &mut [u8], used: usize, sum: &[i32]) -> usize
     requires { used + length sum.now < most_counted }
@@ -47,10 +39,8 @@ pub fn given(out: &mut [u8], used: usize, sum: &[i32]) -> usize
         → Ends (words_of out.new) result (sum.now ++ l)) × (result ≡ used + length sum.now) }
 {
     let mut u = used;
-    let mut i = sum.len();
-    while 0 < i {
-        i -= 1;
-        u = word(out, u, at(sum, i));
+    for v in sum.iter().rev() {
+        u = word(out, u, *v);
     }
     u
 }

@@ -1,14 +1,16 @@
 // Nodes put in front of those that are built: of each the last word first, its kind last.
-ghost use Rattle.std.specs.Prelude.{◌≡◌, Bool, true, false, cond, List, [], ◌∷◌, ◌++◌, ◌+◌, ◌<◌, ◌≤◌, leb, length, ℤ, pos};
+ghost use Rattle.std.specs.Prelude.{◌≡◌, List, [], ◌∷◌, ◌++◌, ◌+◌, ◌<◌, ◌≤◌, leb, length, ℤ, pos};
 ghost use Rattle.rules.specs.Sum.{limit};
 ghost use Rattle.rules.specs.Rule.{Rule, divisible};
 ghost use Rattle.rules.specs.Table.{Node, constant_node, join_node, not_node, literal_node, bind_node};
 ghost use Rattle.rules.specs.Table.{most_words, body as body_of, nodes, size};
 ghost use Rattle.rules.specs.Calls.{words};
+ghost use Rattle.tables.specs.Kinds.{number_of};
 ghost use Rattle.builder.specs.Built.{Ends, Built, Countable, most_counted, unplaced};
 ghost use Rattle.builder.specs.Built.{junction, quantifier, compared};
 
 use crate::front;
+use tables::kind::Kind;
 
 // How many words the nodes that are built have, and how many nodes. By value: an earlier state, taken up again, is what
 // was built then.
@@ -33,27 +35,16 @@ pub fn fits(b: State, room: usize) -> bool
     b.nodes + 1 + b.used <= room
 }
 
-// One of two kinds.
-fn kind(c: bool, yes: i32, no: i32) -> i32
-    ensures { result ≡ cond c yes no }
-{
-    if c {
-        return yes;
-    }
-    no
-}
-
-// A node of one of two kinds, which a truth value chooses: its kind in front of its fields, which are put. With them u
-// words are used.
-fn either(out: &mut [u8], b: State, u: usize, c: bool, yes: i32, no: i32) -> State
+// A node of this kind: its kind in front of its fields, which are put. With them u words are used. The functions below
+// take a truth value for one of two kinds, which are all that each admits: a Kind would ask more of a caller.
+fn node(out: &mut [u8], b: State, u: usize, kind: Kind) -> State
     requires { (u < most_counted) × (b.nodes < most_counted) }
-    ensures { (d : Bool → Node) (fields : List ℤ) (ds : List Node) → body_of 0 (d true) ≡ yes ∷ fields
-        → body_of 0 (d false) ≡ no ∷ fields → b.nodes ≡ length ds
-        → Ends (words out.old) u (fields ++ unplaced ds) → Built (words out.new) result (d c ∷ ds) }
+    ensures { (d : Node) (fields : List ℤ) (ds : List Node) → body_of 0 d ≡ pos (number_of kind) ∷ fields
+        → b.nodes ≡ length ds → Ends (words out.old) u (fields ++ unplaced ds)
+        → Built (words out.new) result (d ∷ ds) }
 {
-    let u = front::word(out, u, kind(c, yes, no));
     State {
-        used: u,
+        used: front::word(out, u, kind as i32),
         nodes: b.nodes + 1,
     }
 }
@@ -64,7 +55,8 @@ pub fn constant(out: &mut [u8], b: State, v: bool) -> State
     ensures { (ds : List Node) → Built (words out.old) b ds
         → Built (words out.new) result (constant_node v ∷ ds) }
 {
-    either(out, b, b.used, v, 1, 0)
+    let kind = if v { Kind::True } else { Kind::False };
+    node(out, b, b.used, kind)
 }
 
 // An and or an or, whose right child stands so far behind it.
@@ -74,7 +66,8 @@ pub fn join(out: &mut [u8], b: State, both: bool, right: usize) -> State
         → Built (words out.new) result (join_node (junction both) (pos right) ∷ ds) }
 {
     let u = front::number(out, b.used, right);
-    either(out, b, u, both, 2, 3)
+    let kind = if both { Kind::And } else { Kind::Or };
+    node(out, b, u, kind)
 }
 
 // A not.
@@ -83,11 +76,7 @@ pub fn not(out: &mut [u8], b: State) -> State
     ensures { (ds : List Node) → Built (words out.old) b ds
         → Built (words out.new) result (not_node ∷ ds) }
 {
-    let u = front::word(out, b.used, 4);
-    State {
-        used: u,
-        nodes: b.nodes + 1,
-    }
+    node(out, b, b.used, Kind::Not)
 }
 
 // For some or for all, over setting v.
@@ -97,7 +86,8 @@ pub fn bind(out: &mut [u8], b: State, some: bool, v: usize) -> State
         → Built (words out.new) result (bind_node (quantifier some) v ∷ ds) }
 {
     let u = front::number(out, b.used, v);
-    either(out, b, u, some, 8, 9)
+    let kind = if some { Kind::ForSome } else { Kind::ForAll };
+    node(out, b, u, kind)
 }
 
 // A sum T compared with 0: T = 0, or 0 < T.
@@ -107,10 +97,12 @@ pub fn compared(out: &mut [u8], b: State, zero: bool, sum: &[i32]) -> State
         → Built (words out.new) result (literal_node (compared zero) sum.now ∷ ds) }
 {
     let u = front::given(out, b.used, sum);
-    either(out, b, u, zero, 10, 5)
+    let kind = if zero { Kind::Zero } else { Kind::Positive };
+    node(out, b, u, kind)
 }
 
 // k divides a sum T, or does not.
+#[inline(always)]
 pub fn divided(out: &mut [u8], b: State, yes: bool, k: usize, sum: &[i32]) -> State
     requires { Countable b (2 + length sum.now) × (k ≤ limit) }
     ensures { (ds : List Node) → Built (words out.old) b ds
@@ -118,5 +110,10 @@ pub fn divided(out: &mut [u8], b: State, yes: bool, k: usize, sum: &[i32]) -> St
 {
     let u = front::given(out, b.used, sum);
     let u = front::number(out, u, k);
-    either(out, b, u, yes, 6, 7)
+    let kind = if yes {
+        Kind::Divisible
+    } else {
+        Kind::Indivisible
+    };
+    node(out, b, u, kind)
 }

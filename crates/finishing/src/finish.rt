@@ -8,18 +8,18 @@ ghost use Rattle.finishing.specs.Placing.{Run};
 ghost use Rattle.finishing.specs.Finishing.{Finishable, SomeFinishable, SomePlaceable, Placeable};
 
 use builder::push::State;
-use tables::{reading, words};
+use tables::kind::Kind;
+use tables::words;
 
-// The `width` words of `work` from place `from` on, at place `to` of `table`.
+// The `width` words of `work` from place `from` on, at place `to` of `table`. Word by word: of one word to nine
+// copy_from_slice is a call of memmove, which takes longer than the words do.
 fn copy(work: &[u8], from: usize, width: usize, table: &mut [u8], to: usize)
     requires { (from + width ≤ length (words_of work.now)) × (to + width ≤ length (words_of table.old)) }
     ensures { take (to + width) (words_of table.new)
         ≡ take to (words_of table.old) ++ take width (drop from (words_of work.now)) }
 {
-    let mut j: usize = 0;
-    while j < width {
+    for j in 0..width {
         words::put(table, to + j, words::get(work, from + j));
-        j += 1;
     }
 }
 
@@ -31,19 +31,14 @@ pub fn node(work: &[u8], from: usize, shift: usize, table: &mut [u8], i: usize, 
         → Placeable (words_of work.now) from shift (words_of table.old) i to d
         → Run (words_of table.old) (words_of table.new) i to (d ∷ []) × (result ≡ width_of d) }
 {
-    let kind = words::natural(work, from);
-    let width = reading::width(kind);
+    let kind = Kind::at(work, from);
+    let width = kind.width();
     words::put(table, i + 1, to as i32);
     copy(work, from, width, table, to);
-    // an and (2) or an or (3) has a right child
-    if kind / 2 != 1 {
-        return width;
+    if let Kind::And | Kind::Or = kind {
+        let distance = words::natural(work, from + 1);
+        words::put(table, to + 1, (distance + shift) as i32);
     }
-    words::put(
-        table,
-        to + 1,
-        (words::natural(work, from + 1) + shift) as i32,
-    );
     width
 }
 
@@ -55,13 +50,11 @@ pub fn finish(work: &[u8], b: State, table: &mut [u8])
 {
     let n = b.nodes;
     words::put(table, 0, n as i32);
-    let mut i: usize = 0;
     let mut from = words::count(work) - b.used;
     let mut to = n + 1;
-    while i < n {
+    for i in 0..n {
         let width = node(work, from, i, table, i, to);
         from += width;
         to += width;
-        i += 1;
     }
 }

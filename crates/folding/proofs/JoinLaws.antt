@@ -70,8 +70,10 @@ module _ (ws : List ℤ) (both : Bool) (b : State) (ds : List Node) (x y : Rule)
       subst (λ (r : Folded). Sides ws both b ds x y r g) d (subst (Sides ws both b ds x y right) e h)
 
   pub dropped_right : (right left : Folded) (v : Bool) (c : State) → right ≡ Known v → left ≡ Pushed c
-      → Sides ws both b ds x y right left → Gives ws b ds (fold_join (junction both) y x) (Pushed c)
-  dropped_right right left v c d e h = left_alone v c (sides_are right left (Known v) (Pushed c) d e h)
+      → Sides ws both b ds x y right left → Gives ws b ds (fold_join (junction both) y x) left
+  dropped_right right left v c d e h =
+      subst (Gives ws b ds (fold_join (junction both) y x)) (sym e)
+      (left_alone v c (sides_are right left (Known v) (Pushed c) d e h))
 
   -- both sides are built
   pub record BothBuilt (a c : State) : Type 0 where

@@ -1,27 +1,15 @@
 -- Which truth value settles an and or an or: "An and with a false side is false, one with a true side is its other
 -- side; or is the dual."
 -- Assumes nothing.
-use mathlib.Core.Path.{◌≡◌, refl, sym, ap, ◌∙◌}
-use mathlib.Core.Bool.{Bool, true, false, not, cond}
+use mathlib.Core.Path.{◌≡◌, refl, ap, ◌∙◌}
+use mathlib.Core.Bool.{Bool, true, false, cond}
 use Rattle.whole.proofs.Tests.{never}
 use Rattle.rules.specs.Rule.{Junction, Rule, Constant, Join, Not, Literal, Bind}
 use Rattle.rules.specs.Fold.{Side, decides, drops, stays, side, fold_sides, fold_join}
 use Rattle.rules.proofs.Folding.{Open}
 use Rattle.builder.specs.Built.{junction}
-use Rattle.builder.specs.declared.push.State.{State}
 use Rattle.folding.specs.Answers.{settled}
-use Rattle.folding.specs.declared.answers.Folded.{Folded}
-use Rattle.folding.specs.declared.answers.Folded.TheVariants.{Known, Pushed}
-
--- ---- the code of `settles`
-
-pub settled_pushed : (both : Bool) (f : Folded) (c : State) → f ≡ Pushed c → false ≡ settled both f
-unfolding settled
-settled_pushed both f c e = ap (settled both) (sym e)
-
-pub settled_known : (both t : Bool) (f : Folded) (v : Bool) → both ≡ t → f ≡ Known v → cond t (not v) v ≡ settled both f
-unfolding settled
-settled_known both t f v d e = ap (λ (u : Bool). cond u (not v) v) (sym d) ∙ ap (settled both) (sym e)
+use Rattle.folding.specs.declared.answers.Folded.TheVariants.{Known}
 
 -- ---- a join with a side that is a truth value
 

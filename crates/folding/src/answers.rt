@@ -11,7 +11,8 @@ ghost use Rattle.folding.specs.Answers.{Gives, Answered, Sides, SomeSides, after
 use builder::push;
 use builder::push::State;
 
-// A truth value, of which nothing is put; or the state with the rule's nodes in front.
+// A truth value, of which nothing is put; or the state with the rule's nodes in front. An enum of its own: neither is an
+// error and neither is nothing, so that Result and Option would say less.
 #[derive(Clone, Copy)]
 pub enum Folded {
     Known(bool),
@@ -19,26 +20,25 @@ pub enum Folded {
 }
 
 // The state after an answer.
+#[tactic(auto, unfolding(crate::specs::Answers::after))]
 pub fn after(b: State, f: Folded) -> State
     ensures { result ≡ after_of b f }
 {
-    let Folded::Pushed(c) = f else {
-        return b;
-    };
-    c
+    match f {
+        Folded::Known(_) => b,
+        Folded::Pushed(c) => c,
+    }
 }
 
-// Whether this answer of one side alone settles an and (`both`), or an or.
+// Whether this answer of one side alone settles an and (`both`), or an or: false an and, true an or.
+#[tactic(auto, unfolding(crate::specs::Answers::settled))]
 pub fn settles(both: bool, f: Folded) -> bool
     ensures { result ≡ settled both f }
 {
-    let Folded::Known(v) = f else {
-        return false;
-    };
-    if both {
-        return !v;
+    match f {
+        Folded::Known(v) => v != both,
+        Folded::Pushed(_) => false,
     }
-    v
 }
 
 // "An and with a false side is false, one with a true side is its other side; or is the dual." The right side, which
@@ -48,16 +48,15 @@ pub fn joined(out: &mut [u8], both: bool, b: State, right: Folded, left: Folded)
     ensures { (x y : Rule) (ds : List Node) → Sides (words out.old) both b ds x y right left
         → Gives (words out.new) b ds (fold_join (junction both) y x) result }
 {
-    let Folded::Pushed(c) = left else {
-        if settles(both, left) {
-            return left;
+    match (right, left) {
+        (_, Folded::Known(_)) if settles(both, left) => left,
+        (_, Folded::Known(_)) => right,
+        (Folded::Known(_), Folded::Pushed(_)) => left,
+        (Folded::Pushed(a), Folded::Pushed(c)) => {
+            let distance = c.nodes - a.nodes + 1;
+            Folded::Pushed(push::join(out, c, both, distance))
         }
-        return right;
-    };
-    let Folded::Pushed(a) = right else {
-        return left;
-    };
-    Folded::Pushed(push::join(out, c, both, c.nodes - a.nodes + 1))
+    }
 }
 
 // "Not of true is false and the reverse."

@@ -13,6 +13,8 @@ use Rattle.rules.specs.Table.{most_words, body, count, nodes, size, is_setting, 
 use Rattle.rules.specs.LeaveOff.{others, question}
 use Rattle.rules.specs.Calls.{words}
 use Rattle.rules.proofs.Sizes.{words as words_of, weight, total, length_nodes, weight_is, size_is}
+use Rattle.tables.specs.Kinds.{number_of}
+use Rattle.tables.specs.declared.kind.Kind.TheVariants as kind
 use Rattle.tables.proofs.Passed.{TableOf, table_words}
 use Rattle.finishing.specs.Placing.{Free, Run}
 use Rattle.finishing.proofs.RunLaws.{total_append, free_part, table_free, run_then}
@@ -20,18 +22,18 @@ use Rattle.questions.proofs.OtherLaws.{five, somes, somes_many, each_nodes, each
 
 -- ---- the bodies of its own nodes
 
-pub some_body : (i v : ℕ) → body i (bind_node for_some v) ≡ pos 8 ∷ pos v ∷ []
-unfolding body
+pub some_body : (i v : ℕ) → body i (bind_node for_some v) ≡ pos (number_of kind.ForSome) ∷ pos v ∷ []
+unfolding body number_of
 some_body i v = refl
 
-pub not_body : (i : ℕ) → body i not_node ≡ pos 4 ∷ []
-unfolding body
+pub not_body : (i : ℕ) → body i not_node ≡ pos (number_of kind.Not) ∷ []
+unfolding body number_of
 not_body i = refl
 
 -- the right child of the and, node 5, is the first node behind its left side
 pub and_body : (n v : ℕ) (a : Rule) → n ≡ count a
-    → body 5 (join_node and (pos (1 + count (Some v a)))) ≡ pos 2 ∷ pos (n + 7) ∷ []
-unfolding body count
+    → body 5 (join_node and (pos (1 + count (Some v a)))) ≡ pos (number_of kind.And) ∷ pos (n + 7) ∷ []
+unfolding body count number_of
 and_body n v a e =
     let right : 5 + (1 + (1 + count a)) ≡ n + 7 = omega (arith, e) in
     ap (λ (m : ℕ). pos 2 ∷ pos m ∷ []) right

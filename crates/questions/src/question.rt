@@ -1,6 +1,6 @@
 // The question: "for some of each other setting, in rising order from the outside, the and of (for some v, F) and (for
 // some v, not F)".
-ghost use Rattle.std.specs.Prelude.{◌≡◌, map, ℕ, ◌+◌, ◌<◌, ◌≤◌, T, pos, length, get_or};
+ghost use Rattle.std.specs.Prelude.{◌≡◌, Ok, map, ℕ, ◌+◌, ◌<◌, ◌≤◌, T, pos, length, get_or};
 ghost use Rattle.rules.specs.Rule.{Rule, Not, Some, for_some};
 ghost use Rattle.rules.specs.Result.{given};
 ghost use Rattle.rules.specs.Table.{bind_node, most_words, count, nodes, size as size_of, is_setting, all_settings};
@@ -9,18 +9,11 @@ ghost use Rattle.rules.specs.Calls.{words as words_of, rule_of};
 ghost use Rattle.rules.proofs.Sizes.{weight};
 ghost use Rattle.tables.specs.Checks.{Verdict};
 ghost use Rattle.tables.specs.Standing.{TableAt};
-ghost use Rattle.tables.specs.declared.check.Checked.TheVariants.{Table};
 ghost use Rattle.finishing.specs.Placing.{Free, Run};
 
 use crate::place;
+use tables::kind::Kind;
 use tables::words;
-
-// The kinds of its own nodes.
-const AND: usize = 2;
-
-const NOT: usize = 4;
-
-const SOME: usize = 8;
 
 // How many words the question on the rule of the table t has: t's entries and bodies twice, nine entries and 17 words
 // of its own nodes, and the count.
@@ -37,10 +30,7 @@ fn other(i: usize, v: usize) -> usize
     requires { (i < 5) × T (is_setting (pos v)) }
     ensures { (result ≡ get_or (others v all_settings) i 0) × (result ≤ 6) }
 {
-    if i + 1 < v {
-        return i + 1;
-    }
-    i + 2
+    if i + 1 < v { i + 1 } else { i + 2 }
 }
 
 // "for some of each other setting": nodes 0 to 4.
@@ -49,43 +39,41 @@ fn outer(table: &mut [u8], to: usize, v: usize)
     ensures { Run (words_of table.old) (words_of table.new) 0 to
         (map (bind_node for_some) (others v all_settings)) }
 {
-    let mut i: usize = 0;
-    while i < 5 {
-        place::two(table, i, to + i * 2, SOME, other(i, v));
-        i += 1;
+    for i in 0..5 {
+        place::node(table, i, to + i * 2, Kind::ForSome, &[other(i, v)]);
     }
 }
 
 // "for some v, F", from node i on. The place behind it.
 fn holds(t: &[u8], n: usize, v: usize, table: &mut [u8], i: usize, to: usize) -> usize
-    requires { Verdict (rule_of t.now) (Table n) × T (is_setting (pos v))
+    requires { Verdict (rule_of t.now) (Ok n) × T (is_setting (pos v))
         × ((a : Rule) → rule_of t.now ≡ given a
         → Free (words_of table.old) i to (count (Some v a)) (weight (Some v a))) }
     ensures { (a : Rule) → rule_of t.now ≡ given a
         → Run (words_of table.old) (words_of table.new) i to (nodes (Some v a))
         × (result ≡ to + weight (Some v a)) }
 {
-    place::two(table, i, to, SOME, v);
+    place::node(table, i, to, Kind::ForSome, &[v]);
     place::rule(t, n, table, i + 1, to + 2)
 }
 
 // "for some v, not F", from node i on.
 fn fails(t: &[u8], n: usize, v: usize, table: &mut [u8], i: usize, to: usize)
-    requires { Verdict (rule_of t.now) (Table n) × T (is_setting (pos v))
+    requires { Verdict (rule_of t.now) (Ok n) × T (is_setting (pos v))
         × ((a : Rule) → rule_of t.now ≡ given a
         → Free (words_of table.old) i to (count (Some v (Not a))) (weight (Some v (Not a)))) }
     ensures { (a : Rule) → rule_of t.now ≡ given a
         → Run (words_of table.old) (words_of table.new) i to (nodes (Some v (Not a))) }
 {
-    place::two(table, i, to, SOME, v);
-    place::one(table, i + 1, to + 2, NOT);
+    place::node(table, i, to, Kind::ForSome, &[v]);
+    place::node(table, i + 1, to + 2, Kind::Not, &[]);
     place::rule(t, n, table, i + 2, to + 3);
 }
 
 // The question on the rule of the table t, of n nodes, as a table at the start of `out`: nodes 0 to 4 are the outer
 // quantifiers, node 5 is the and, its left side starts at node 6 and its right side at node n + 7.
 pub fn question(t: &[u8], n: usize, v: usize, out: &mut [u8])
-    requires { Verdict (rule_of t.now) (Table n) × T (is_setting (pos v))
+    requires { Verdict (rule_of t.now) (Ok n) × T (is_setting (pos v))
         × ((r : Rule) → rule_of t.now ≡ given r → size_of (question_of v r) ≤ length (words_of out.old))
         × (length (words_of out.old) ≤ most_words) }
     ensures { (r : Rule) → rule_of t.now ≡ given r
@@ -94,7 +82,7 @@ pub fn question(t: &[u8], n: usize, v: usize, out: &mut [u8])
     let nodes = n * 2 + 9;
     words::put(out, 0, nodes as i32);
     outer(out, nodes + 1, v);
-    place::two(out, 5, nodes + 11, AND, n + 7);
+    place::node(out, 5, nodes + 11, Kind::And, &[n + 7]);
     let behind = holds(t, n, v, out, 6, nodes + 13);
     fails(t, n, v, out, n + 7, behind);
 }

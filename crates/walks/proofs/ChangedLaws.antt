@@ -16,8 +16,7 @@ use Rattle.rules.proofs.Shapes.{seven_put}
 use Rattle.rules.proofs.Weights.{fold_lighter, Lighter, map_each_lighter}
 use Rattle.rules.proofs.Weights.{scaled_lighter, body_lighter, far_body_lighter}
 use Rattle.literals.specs.Changes.{becomes, Fair, Usable}
-use Rattle.literals.specs.declared.change.Change.{Change}
-use Rattle.literals.specs.declared.change.Change.TheVariants.{Same, Scaled, Far, Full}
+use Rattle.literals.specs.Changes.{Change, Same, Scaled, Far, Full}
 use Rattle.walks.specs.Walk.{changed}
 
 becomes_lighter : (c : Change) (u : Sum) → Usable c u → (t : Test) (s : Sum) → InTable t s → Lighter (becomes c u) t s

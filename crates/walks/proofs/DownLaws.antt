@@ -7,38 +7,77 @@ use mathlib.Core.List.{List}
 use Prim.Native.Nat.{ℕ, suc, ◌+◌, ◌<◌, ◌≤◌}
 use native.Mathlib.Omega.{arith}
 use lib.IntN.{ℤ, pos}
-use lib.ListN.{length, get_or, drop}
+use lib.ListN.{length, get_or, drop, length-drop}
 use lib.Seq.{get_or-drop}
-use Rattle.rules.specs.Rule.{Rule, and, or, for_some, for_all, positive, divisible, is_zero}
+use Rattle.rules.specs.Rule.{and, or, for_some, for_all, positive, divisible, is_zero}
+use Rattle.rules.specs.Rule.{Rule, Constant, Join, Not, Literal, Bind}
 use Rattle.rules.specs.Table.{most_words}
-use Rattle.rules.specs.Calls.{signed}
+use Rattle.tables.specs.Kinds.{number_of, Kinded, kind_of}
 use Rattle.tables.specs.Standing.{Stands}
-use Rattle.tables.proofs.Inversion.{Shape, shape, constant, join, negation, literal, bind}
-use Rattle.walks.specs.Chain.{unary, Chained, no_link, a_not, a_bind, below, chain_words}
-use Rattle.walks.specs.Chain.{LinkOf, ChainOf, SomeStands}
+use Rattle.tables.specs.declared.kind.Kind.{Kind}
+use Rattle.tables.specs.declared.kind.Kind.TheVariants as kind
 use Rattle.tables.proofs.Parts.{moved}
+use Rattle.tables.proofs.RootKinds.{root_first, root_read}
+use Rattle.tables.proofs.Standings.{root_there}
+use Rattle.walks.specs.Chain.{unary, Chained, no_link, a_not, a_bind, below, chain_words}
+use Rattle.walks.specs.Chain.{link_words, ChainOf, SomeStands}
 use Rattle.walks.proofs.ChainLaws.{chain_stands, chain_inside, chained_more, words_more}
 
--- ---- the kind of a node
+-- ---- the kind of a node whose body is at some place of the bodies
+
+module _ {es : List ℤ} (bs : List ℤ) {n p : ℕ} (w : ℕ) (r : Rule) (s : Stands es (drop w bs) n p r) where
+  here : get_or bs w (pos 0) ≡ get_or (drop w bs) 0 (pos 0)
+  here =
+      let same : w ≡ w + 0 = omega arith in
+      ap (λ (m : ℕ). get_or bs m (pos 0)) same ∙ sym (get_or-drop w bs 0 (pos 0))
+
+  pub kind_there : Kinded bs w
+  kind_there = record {
+    there = omega (arith, (root_there r s).1, length-drop w bs);
+    kind = kind_of r;
+    numbered = here ∙ root_first r s;
+  }
+
+  pub kind_at : (k : Kind) → get_or bs w (pos 0) ≡ pos (number_of k) → k ≡ kind_of r
+  kind_at k first = root_read k r s (sym here ∙ first)
+
+pub link_few : (k : Kind) → link_words k ≤ 2
+link_few kind.False = omega arith
+link_few kind.True = omega arith
+link_few kind.And = omega arith
+link_few kind.Or = omega arith
+link_few kind.Not = omega arith
+link_few kind.Positive = omega arith
+link_few kind.Divisible = omega arith
+link_few kind.Indivisible = omega arith
+link_few kind.ForSome = omega arith
+link_few kind.ForAll = omega arith
+link_few kind.Zero = omega arith
 
 -- the rule r goes on with a node of v words, or its root is neither a not nor a quantifier
 abbrev Goes : Rule → ℕ → Type 0
 Goes r v = (Chained 1 r × (v ≡ chain_words 1 r) × (1 ≤ v)) ⊎ ((unary r ≡ false) × (v ≡ 0))
 
-goes : {es bs : List ℤ} {n p kind v : ℕ} (r : Rule) → LinkOf kind v → Shape es bs n p kind r → Goes r v
-unfolding unary chain_words
-goes r link (constant b l e) = inr (refl, link.other (omega arith) (omega arith) (omega arith))
-goes r link (join and a b i x) = inr (refl, link.other (omega arith) (omega arith) (omega arith))
-goes r link (join or a b i x) = inr (refl, link.other (omega arith) (omega arith) (omega arith))
-goes r link (negation a i x) = inl (a_not a (no_link a), link.negation i, omega (arith, link.negation i))
-goes r link (literal positive s i x) = inr (refl, link.other (omega arith) (omega arith) (omega arith))
-goes r link (literal (divisible true k) s i x) = inr (refl, link.other (omega arith) (omega arith) (omega arith))
-goes r link (literal (divisible false k) s i x) = inr (refl, link.other (omega arith) (omega arith) (omega arith))
-goes r link (literal is_zero s i x) = inr (refl, link.other (omega arith) (omega arith) (omega arith))
-goes r link (bind for_some u a i w x) =
-    inl (a_bind for_some u a (no_link a), link.for_some i, omega (arith, link.for_some i))
-goes r link (bind for_all u a i w x) =
-    inl (a_bind for_all u a (no_link a), link.for_all i, omega (arith, link.for_all i))
+goes : (r : Rule) → Goes r (link_words (kind_of r))
+unfolding unary chain_words kind_of
+goes (Constant true) = inr (refl, refl)
+goes (Constant false) = inr (refl, refl)
+goes (Join and a b) = inr (refl, refl)
+goes (Join or a b) = inr (refl, refl)
+goes (Not a) = inl (a_not a (no_link a), omega arith, omega arith)
+goes (Literal positive s) = inr (refl, refl)
+goes (Literal (divisible true k) s) = inr (refl, refl)
+goes (Literal (divisible false k) s) = inr (refl, refl)
+goes (Literal is_zero s) = inr (refl, refl)
+goes (Bind for_some v a) = inl (a_bind for_some v a (no_link a), omega arith, omega arith)
+goes (Bind for_all v a) = inl (a_bind for_all v a (no_link a), omega arith, omega arith)
+
+pub unlinked : {k : Kind} (a : Rule) → k ≡ kind_of a → link_words k ≡ 0 → unary a ≡ false
+unlinked a is none = go (goes a)
+  where
+    go : Goes a (link_words (kind_of a)) → unary a ≡ false
+    go (inl (u, i, some)) = absurd (omega (arith, ap link_words is))
+    go (inr (u, i)) = u
 
 -- ---- the steps
 
@@ -67,14 +106,22 @@ module _ (bs : List ℤ) (k w : ℕ) (reached : Reached bs k w) where
       let (c, e) = reached es n p a s in
       record { few = few; chained = c; wide = e; ends = ends es n p a s }
 
-  module _ (kind v : ℕ) (first : get_or bs w (pos 0) ≡ signed kind) (link : LinkOf kind v) where
+  -- the node that comes next, if one does
+  next : {es : List ℤ} {n p : ℕ} (a : Rule) → Stands es bs n p a
+      → Stands (drop k es) (drop w bs) (n + k) (p + chain_words k a) (below k a)
+  unfolding Reached
+  next {es} {n} {p} a s =
+      let (c, e) = reached es n p a s in
+      moved (below k a) refl (ap (λ (m : ℕ). drop m bs) (sym e)) refl refl (chain_stands k a c s)
+
+  pub next_kinded : SomeStands bs → Kinded bs w
+  next_kinded some = kind_there bs w (below k some.rule) (next some.rule some.at.stands)
+
+  module _ (kind : Kind) (first : get_or bs w (pos 0) ≡ pos (number_of kind)) {v : ℕ} (link : v ≡ link_words kind) where
     goes_on : (es : List ℤ) (n p : ℕ) (a : Rule) → Stands es bs n p a → Goes (below k a) v
-    unfolding Reached
     goes_on es n p a s =
-        let (c, e) = reached es n p a s in
-        let here = moved (below k a) refl (ap (λ (m : ℕ). drop m bs) (sym e)) refl refl (chain_stands k a c s) in
-        let word = get_or-drop w bs 0 (pos 0) ∙ ap (λ (m : ℕ). get_or bs m (pos 0)) (omega arith) ∙ first in
-        goes (below k a) link (shape kind word (below k a) here)
+        let is = kind_at bs w (below k a) (next a s) kind first in
+        subst (Goes (below k a)) (sym (link ∙ ap link_words is)) (goes (below k a))
 
     pub reached_more : ¬ (v ≡ 0) → Reached bs (k + 1) (w + v)
     unfolding Reached

@@ -21,10 +21,8 @@ use Rattle.folding.specs.declared.answers.Folded.{Folded}
 use Rattle.folding.specs.declared.answers.Folded.TheVariants.{Known}
 use Rattle.literals.specs.Literal.{Marked, LiteralAt}
 use Rattle.literals.specs.Changes.{becomes, changed_sum, changed_test, divisor_or_none, Settles}
-use Rattle.literals.specs.declared.change.Change.{Change}
-use Rattle.literals.specs.declared.change.Change.TheVariants.{Same, Scaled, Far, Full}
-use Rattle.literals.specs.declared.change.Settled.{Settled}
-use Rattle.literals.specs.declared.change.Settled.TheVariants.{Yes, No}
+use Rattle.literals.specs.Changes.{Change, Same, Scaled, Far, Full}
+use Rattle.std.specs.Prelude.{Option, Some, None}
 use Rattle.literals.proofs.Literals.{kind_read}
 use Rattle.literals.proofs.ChangeLaws.{changed_seven, kept, kept_within}
 use Rattle.walks.specs.Literals.{Puttable, SomeChangeable, SomeKept}
@@ -74,7 +72,7 @@ module _ {ws : List ℤ} {c : Change} {u : Sum} {b : State} where
         countable = h.countable;
       }
 
-  pub some_kept : {r : Settled} (h : SomeChangeable ws c u b) → Settles c h.some.test h.some.sum r → r ≡ No
+  pub some_kept : {r : Option Bool} (h : SomeChangeable ws c u b) → Settles c h.some.test h.some.sum r → r ≡ None
       → SomeKept ws c u b
   some_kept h e none =
       let limits = kept_within c h.some.test h.some.sum e u none h.numbers in
@@ -91,12 +89,12 @@ pub gives_changed : (ws : List ℤ) (b : State) (ds : List Node) (t : Test) {s z
 gives_changed ws b ds t f e given = subst (λ (s : Sum). Gives ws b ds (fold_literal t s) f) e given
 
 module _ (ws : List ℤ) (b : State) (ds : List Node) (c : Change) (t : Test) (s : Sum) (u : Sum) where
-  pub gives_known : {r : Settled} {v : Bool} → Settles c t s r → r ≡ Yes v → Built ws b ds
+  pub gives_known : {r : Option Bool} {v : Bool} → Settles c t s r → r ≡ Some v → Built ws b ds
       → Gives ws b ds (fold (becomes c u t s)) (Known v)
   unfolding Gives Settles fold
   gives_known e known built = (ap fold (subst (Settles c t s) known e u), built)
 
-  pub gives_kept : {r : Settled} (f : Folded) → Settles c t s r → r ≡ No
+  pub gives_kept : {r : Option Bool} (f : Folded) → Settles c t s r → r ≡ None
       → Gives ws b ds (fold_literal (changed_test c s t) (changed_sum c u s)) f
       → Gives ws b ds (fold (becomes c u t s)) f
   unfolding fold

@@ -3,7 +3,7 @@
 use mathlib.Core.Path.{◌≡◌, refl, sym, ap, ◌∙◌, subst}
 use mathlib.Core.Bool.{Bool, true, false, not}
 use mathlib.Core.List.{List}
-use Prim.Native.Nat.{ℕ, ◌-◌, ◌<◌, ◌≤◌}
+use Prim.Native.Nat.{ℕ, ◌<◌, ◌≤◌}
 use native.Mathlib.Omega.{arith}
 use borrow.Author.Tests.{le-ltb}
 use lib.Dec.{eqb}
@@ -22,11 +22,12 @@ use Rattle.tables.proofs.Inversion.{test_kind}
 use Rattle.builder.specs.Built.{Countable}
 use Rattle.builder.specs.declared.push.State.{State}
 use Rattle.builder.proofs.BuiltLaws.{building_countable}
-use Rattle.literals.specs.Literal.{Fair, start_of, Marked}
+use Rattle.folding.specs.declared.answers.Folded.{Folded}
+use Rattle.literals.specs.Literal.{Fair, start_of, Marked, SomeLiteral}
 use Rattle.literals.proofs.Literals.{literal_sum, literal_marked, literal_long}
 use Rattle.walks.specs.Sums.{turned, raised, SumAt, SomeSum, TestAt, SomeTestAt}
 use Rattle.walks.specs.Normal.{Normalled, LiteralReady, SomeLiteralReady, ZeroReady, SomeZeroReady}
-use Rattle.walks.specs.declared.normal.Normal.{Normal}
+use Rattle.std.specs.Prelude.{Option}
 use Rattle.walks.proofs.PutLaws.{positive_test, zero_test, divisor_test}
 use Rattle.walks.proofs.ZeroLaws.{Tested, positive_at}
 
@@ -37,13 +38,21 @@ module _ {kind : ℕ} {plainly : Bool} where
       → kind ≡ test_kind (divisible (whether plainly c) k)
   traded_same e c k h = h ∙ ap (λ (p : Bool). test_kind (divisible (whether p c) k)) (sym e)
 
-  pub traded_other : plainly ≡ false → (c : Bool) (k : ℕ) → kind ≡ test_kind (divisible c k)
-      → 13 - kind ≡ test_kind (divisible (whether plainly c) k)
-  traded_other e c k h = by c h ∙ ap (λ (p : Bool). test_kind (divisible (whether p c) k)) (sym e)
+  pub traded_yes : plainly ≡ false → kind ≡ 6 → (c : Bool) (k : ℕ) → kind ≡ test_kind (divisible c k)
+      → 7 ≡ test_kind (divisible (whether plainly c) k)
+  traded_yes e six c k h = by c h ∙ ap (λ (p : Bool). test_kind (divisible (whether p c) k)) (sym e)
     where
-      by : (c : Bool) → kind ≡ test_kind (divisible c k) → 13 - kind ≡ test_kind (divisible (whether false c) k)
-      by true h = omega arith
-      by false h = omega arith
+      by : (c : Bool) → kind ≡ test_kind (divisible c k) → 7 ≡ test_kind (divisible (whether false c) k)
+      by true h = refl
+      by false h = absurd (omega arith)
+
+  pub traded_no : plainly ≡ false → ¬ (kind ≡ 6) → (c : Bool) (k : ℕ) → kind ≡ test_kind (divisible c k)
+      → 6 ≡ test_kind (divisible (whether plainly c) k)
+  traded_no e other c k h = by c h ∙ ap (λ (p : Bool). test_kind (divisible (whether p c) k)) (sym e)
+    where
+      by : (c : Bool) → kind ≡ test_kind (divisible c k) → 6 ≡ test_kind (divisible (whether false c) k)
+      by true h = absurd (other h)
+      by false h = refl
 
 -- T has its sign turned where the x factor z is negative
 turned_is : (z : ℤ) (s : Sum) → elim z [ pos a ↦ s | negsuc a ↦ negate s ] ≡ turned (lt_z z (pos 0)) s
@@ -78,9 +87,11 @@ unfolding normal_literal raised turned one_minus
 positive_is true x s = refl
 positive_is false x s = refl
 
+pub literal_there : {bs ws : List ℤ} {x : ℕ} {b : State} → SomeLiteralReady bs x ws b → SomeLiteral bs
+literal_there some = record { node = some.node; test = some.test; sum = some.sum; at = some.ready.at }
+
 pub literal_words : {bs ws : List ℤ} {x : ℕ} {b : State} → SomeLiteralReady bs x ws b → 8 ≤ length bs
-literal_words some =
-    literal_long (record { node = some.node; test = some.test; sum = some.sum; at = some.ready.at })
+literal_words some = literal_long (literal_there some)
 
 pub record LiteralRead (bs : List ℤ) (kind k : ℕ) : Type 0 where
   pub kind_word : get_or bs 0 (pos 0) ≡ signed kind
@@ -104,7 +115,7 @@ module _ {bs ws : List ℤ} {x kind k : ℕ} {b : State} (read : LiteralRead bs 
   positive_asks e some =
       (record { test = positive; sum = some.sum; there = positive_there e some.ready }, some_countable some)
 
-  pub positive_made : kind ≡ 5 → (plainly : Bool) (vs : List ℤ) (f : Normal)
+  pub positive_made : kind ≡ 5 → (plainly : Bool) (vs : List ℤ) (f : Option Folded)
       → Tested bs 5 1 (not plainly) (not plainly) ws vs b f
       → (n : ℕ) (t : Test) (s : Sum) (ds : List Node) → LiteralReady bs n x ws b t s ds
       → Normalled vs b ds (normal_literal plainly x t s) f
@@ -125,7 +136,7 @@ module _ {bs ws : List ℤ} {x kind k : ℕ} {b : State} (read : LiteralRead bs 
   pub some_zero : kind ≡ 10 → SomeLiteralReady bs x ws b → SomeZeroReady bs ws b
   some_zero e some = record { sum = some.sum; tail = some.tail; ready = zero_ready e some.ready }
 
-  pub zero_put : kind ≡ 10 → (plainly : Bool) (vs : List ℤ) (f : Normal)
+  pub zero_put : kind ≡ 10 → (plainly : Bool) (vs : List ℤ) (f : Option Folded)
       → ((x : ℕ) (s : Sum) (ds : List Node) → ZeroReady bs ws b s ds
       → Normalled vs b ds (normal_literal plainly x is_zero s) f)
       → (n : ℕ) (t : Test) (s : Sum) (ds : List Node) → LiteralReady bs n x ws b t s ds
@@ -143,15 +154,6 @@ module _ {bs ws : List ℤ} {x kind k : ℕ} {b : State} (read : LiteralRead bs 
     pub divided_factor : SomeLiteralReady bs x ws b → SomeSum bs 2 × (x < 7)
     divided_factor some =
         (record { sum = some.sum; there = divided_sum some.ready }, omega (arith, some.ready.setting.1))
-
-    pub divided_kind : SomeLiteralReady bs x ws b → kind ≤ 13
-    divided_kind some = by some.test (marks some.ready)
-      where
-        by : (t : Test) → Marked kind k t → kind ≤ 13
-        by positive m = omega (arith, m.same_kind)
-        by (divisible true d) m = omega (arith, m.same_kind)
-        by (divisible false d) m = omega (arith, m.same_kind)
-        by is_zero m = omega (arith, m.same_kind)
 
     module _ {m : ℕ} (plainly : Bool)
         (traded : (c : Bool) (d : ℕ) → kind ≡ test_kind (divisible c d)
@@ -171,7 +173,7 @@ module _ {bs ws : List ℤ} {x kind k : ℕ} {b : State} (read : LiteralRead bs 
       divided_asks some =
           (record { test = _; sum = some.sum; there = divided_there some.ready }, some_countable some)
 
-      pub divided_made : (vs : List ℤ) (f : Normal) {z : ℤ} → SFits w32 z
+      pub divided_made : (vs : List ℤ) (f : Option Folded) {z : ℤ} → SFits w32 z
           → ((s : Sum) → SumAt bs 2 s → z ≡ factor x (turned false s))
           → Tested bs m k (lt_z (to_z w32 (of_z w32 z)) (pos 0)) false ws vs b f
           → (n : ℕ) (t : Test) (s : Sum) (ds : List Node) → LiteralReady bs n x ws b t s ds

@@ -19,8 +19,7 @@ use Rattle.folding.specs.declared.answers.Folded.TheVariants.{Known, Pushed}
 use Rattle.folding.proofs.AnswerLaws.{settled_join, sides_of, some_sides_of}
 use Rattle.walks.specs.Pairs.{Pair, SomePair}
 use Rattle.walks.specs.Normal.{Normalled}
-use Rattle.walks.specs.declared.normal.Normal.{Normal}
-use Rattle.walks.specs.declared.normal.Normal.TheVariants.{OverLimit, Made}
+use Rattle.std.specs.Prelude.{Option, Some, None}
 
 -- the buffer keeps its length
 -- ---- what was there before an answer is there after it
@@ -74,23 +73,21 @@ module _ (ws : List ℤ) (and : Bool) (b : State) (right left : Folded) where
 
 module _ (j : Junction) (x y : Rule) where
   -- a number passes the limit
-  pub right_over : (ws : List ℤ) (b : State) (ds : List Node) (f : Normal) → f ≡ OverLimit → Normalled ws b ds x f
-      → Normalled ws b ds (Join j y x) f
+  pub right_over : (ws : List ℤ) (b : State) (ds : List Node) (f : Option Folded) → f ≡ None → Normalled ws b ds x f
+      → Normalled ws b ds (Join j y x) None
   unfolding Normalled some_literal
   right_over ws b ds f e answer =
-      subst (Normalled ws b ds (Join j y x)) (sym e)
-      (by (some_literal over_limit y) (some_literal over_limit x) (subst (Normalled ws b ds x) e answer))
+      by (some_literal over_limit y) (some_literal over_limit x) (subst (Normalled ws b ds x) e answer)
     where
       by : (p q : Bool) → T q → T (p || q)
       by true q t = tt
       by false q t = t
 
-  pub left_over : (ws : List ℤ) (b c : State) (ds es : List Node) (f : Normal) → f ≡ OverLimit → Normalled ws c es y f
-      → Normalled ws b ds (Join j y x) f
+  pub left_over : (ws : List ℤ) (b c : State) (ds es : List Node) (f : Option Folded) → f ≡ None → Normalled ws c es y f
+      → Normalled ws b ds (Join j y x) None
   unfolding Normalled some_literal
   left_over ws b c ds es f e answer =
-      subst (Normalled ws b ds (Join j y x)) (sym e)
-      (by (some_literal over_limit y) (some_literal over_limit x) (subst (Normalled ws c es y) e answer))
+      by (some_literal over_limit y) (some_literal over_limit x) (subst (Normalled ws c es y) e answer)
     where
       by : (p q : Bool) → T p → T (p || q)
       by true q t = tt
@@ -102,9 +99,9 @@ module _ (j : Junction) (x y : Rule) where
     pub left_within : T (not (some_literal over_limit y))
     pub pair : Pair ws b ds (fold x) (fold y) right left
 
-  pub both_made : (ws₀ ws₁ ws₂ : List ℤ) (b : State) (ds : List Node) (f g : Normal) (right left : Folded)
-      → Built ws₀ b ds → f ≡ Made right → Normalled ws₁ b ds x f
-      → g ≡ Made left → Normalled ws₂ (after b right) (built_then ds (fold x) right) y g → BothMade ws₂ b ds right left
+  pub both_made : (ws₀ ws₁ ws₂ : List ℤ) (b : State) (ds : List Node) (f g : Option Folded) (right left : Folded)
+      → Built ws₀ b ds → f ≡ Some right → Normalled ws₁ b ds x f
+      → g ≡ Some left → Normalled ws₂ (after b right) (built_then ds (fold x) right) y g → BothMade ws₂ b ds right left
   unfolding Normalled
   both_made ws₀ ws₁ ws₂ b ds f g right left before d first e second =
       let one = subst (Normalled ws₁ b ds x) d first in
@@ -116,7 +113,7 @@ module _ (j : Junction) (x y : Rule) where
       }
 
   pub join_made : (ws vs : List ℤ) (b : State) (ds : List Node) (right left f : Folded) → BothMade ws b ds right left
-      → Gives vs b ds (fold_join j (fold y) (fold x)) f → Normalled vs b ds (Join j y x) (Made f)
+      → Gives vs b ds (fold_join j (fold y) (fold x)) f → Normalled vs b ds (Join j y x) (Some f)
   unfolding Normalled some_literal fold
   join_made ws vs b ds right left f made h =
       (neither (some_literal over_limit y) (some_literal over_limit x) made.left_within made.right_within, h)
@@ -127,7 +124,7 @@ module _ (j : Junction) (x y : Rule) where
 
 -- ---- an answer of normal form that is put
 
-pub made_gives : (ws : List ℤ) (b : State) (ds : List Node) (x : Rule) (f : Normal) (r : Folded) → f ≡ Made r
+pub made_gives : (ws : List ℤ) (b : State) (ds : List Node) (x : Rule) (f : Option Folded) (r : Folded) → f ≡ Some r
     → Normalled ws b ds x f → Gives ws b ds (fold x) r
 unfolding Normalled
 made_gives ws b ds x f r e h = (subst (Normalled ws b ds x) e h).1

@@ -1,103 +1,54 @@
 -- The truth value of a literal whose a's are all zero or whose divisor is 1, and the nodes of one that stays.
 -- Assumes nothing.
 use mathlib.Core.Path.{◌≡◌, refl, sym, ap, ◌∙◌, subst}
-use mathlib.Core.Bool.{Bool, true, false, not, ◌&&◌, ◌||◌, cond}
+use mathlib.Core.Bool.{Bool, true, false, not, ◌&&◌, cond}
 use mathlib.Core.List.{List, [], ◌∷◌}
-use Prim.Native.Nat.{ℕ, suc, ◌+◌, ◌^◌, ◌<◌, ◌≤◌}
+use Prim.Native.Nat.{ℕ, ◌-◌, ◌^◌, ◌<◌, ◌≤◌}
 use native.Mathlib.Nat.{mod-zero}
 use native.Mathlib.Omega.{arith}
+use borrow.Author.Rules.{part_to_end}
 use borrow.Author.Tests.{eq-eqb, ne_eqb}
-use lib.Dec.{T, eqb, leb, le→leb, leb→le}
+use Rattle.std.specs.List.{list_all}
+use lib.Dec.{eqb, leb, le→leb, leb→le}
 use lib.IntN.{ℤ, pos, negsuc, nat_abs}
-use lib.ListN.{length, get_or, drop}
-use lib.Seq.{drop-cons, drop-length}
+use lib.ListN.{length, take, drop}
 use mir.Syntax.{w32, w64}
 use mir.Val.{SFits, to_z, of_z}
 use mir.Facts.{to_z-of_z}
 use Rattle.whole.specs.Divides.{divides}
 use Rattle.whole.specs.Integers.{eq_ℤ}
-use Rattle.whole.proofs.Tests.{eq_ℤ→eq, T_and}
+use Rattle.whole.proofs.Tests.{T_and}
 use Rattle.rules.specs.Sum.{Sum, factor, limit, all_zero, no_factors}
 use Rattle.rules.specs.Rule.{Test, positive, divisible, is_zero, Rule, Constant, Literal, passes}
 use Rattle.rules.specs.Table.{Node, literal_node, nodes, is_divisor}
-use Rattle.rules.specs.Fold.{divisor_one, fold_literal}
+use Rattle.rules.specs.Fold.{fold_literal}
 use Rattle.rules.specs.Laws.{DivisorOf}
 use Rattle.rules.proofs.Folding.{settles}
 use Rattle.builder.specs.Built.{Built}
 use Rattle.builder.specs.declared.push.State.{State}
 use Rattle.folding.specs.Answers.{Gives}
 use Rattle.folding.specs.declared.answers.Folded.TheVariants.{Known, Pushed}
-use Rattle.literals.specs.Literal.{start_of, Fair, Marked, SomeTest}
+use Rattle.literals.specs.Literal.{Fair, Marked, SomeTest}
 use Rattle.literals.proofs.Sizes.{wide_is, size_of}
 use Rattle.walks.specs.Literals.{SomeMarked}
 
--- ---- the a's from place v on
+-- ---- the a's, which are the words behind c
 
-zero_is : (z : ℤ) → SFits w32 z → of_z w32 z ≡ 0 → z ≡ pos 0
-zero_is (pos n) f e = ap pos e
-zero_is (negsuc n) f e = absurd (omega (arith, f.sfits))
-
-pub zeros_start : (s : Sum) → no_factors s ≡ all_zero (drop 1 s)
+zeros : (s : Sum) → no_factors s ≡ all_zero (drop 1 s)
 unfolding no_factors
-zeros_start [] = refl
-zeros_start (c ∷ s) = refl
+zeros [] = refl
+zeros (c ∷ s) = refl
 
-zeros_from : (s : Sum) (v : ℕ) (z : ℤ) → v < length s → z ≡ get_or s v (pos 0)
-    → all_zero (drop v s) ≡ (eq_ℤ z (pos 0) && all_zero (drop (v + 1) s))
+all_zeros : (l : List ℤ) → list_all (λ (a : ℤ). eq_ℤ a (pos 0)) l ≡ all_zero l
 unfolding all_zero
-zeros_from s v z h e =
-    let next : suc v ≡ v + 1 = omega arith in
-    ap all_zero (drop-cons s v (pos 0) h)
-    ∙ ap (λ (w : ℕ). eq_ℤ (get_or s v (pos 0)) (pos 0) && all_zero (drop w s)) next
-    ∙ ap (λ (a : ℤ). eq_ℤ a (pos 0) && all_zero (drop (v + 1) s)) (sym e)
+all_zeros [] = refl
+all_zeros (a ∷ l) = ap (λ (b : Bool). eq_ℤ a (pos 0) && b) (all_zeros l)
 
--- z is the a at place v, and those before it are zero
-module _ (s : Sum) (v : ℕ) (z : ℤ) (inside : v < length s) (fits : SFits w32 z) (here : z ≡ get_or s v (pos 0))
-    (so_far : no_factors s ≡ all_zero (drop v s)) where
-  pub zeros_more : of_z w32 z ≡ 0 → no_factors s ≡ all_zero (drop (v + 1) s)
-  zeros_more e =
-      so_far ∙ zeros_from s v z inside here
-      ∙ ap (λ (a : ℤ). eq_ℤ a (pos 0) && all_zero (drop (v + 1) s)) (zero_is z fits e)
-
-  pub zeros_end : ¬ (of_z w32 z ≡ 0) → false ≡ no_factors s
-  zeros_end f = sym (so_far ∙ zeros_from s v z inside here ∙ by (eq_ℤ z (pos 0)) refl)
-    where
-      by : (b : Bool) → eq_ℤ z (pos 0) ≡ b → (b && all_zero (drop (v + 1) s)) ≡ false
-      by true e = absurd (f (ap (of_z w32) (eq_ℤ→eq z (pos 0) (subst T (sym e) tt))))
-      by false e = refl
-
-pub zeros_all : (s : Sum) (v : ℕ) → length s ≡ 7 → v ≤ 7 → 7 ≤ v → no_factors s ≡ all_zero (drop v s)
-    → true ≡ no_factors s
-unfolding all_zero
-zeros_all s v seven high low so_far =
-    let end : v ≡ length s = omega arith in
-    sym (so_far ∙ ap (λ (w : ℕ). all_zero (drop w s)) end ∙ ap all_zero (drop-length s))
-
--- ---- which literal has a truth value
-
-module _ (s : Sum) {kind k : ℕ} (t : Test) (marked : Marked kind k t) where
-  pub settles_zeros : {r : Bool} → r ≡ no_factors s → r ≡ true → true ≡ settles t s
-  settles_zeros e f = ap (λ (b : Bool). b || divisor_one t) (sym f ∙ e)
-
-  -- a kind without a divisor
-  pub settles_not : {r : Bool} {at : ℕ} → r ≡ no_factors s → r ≡ false → at ≡ start_of t → at ≡ 1 → false ≡ settles t s
-  settles_not e f g h = ap (λ (b : Bool). b || false) (sym f ∙ e)
-      ∙ ap (λ (b : Bool). no_factors s || b) (by t (sym g ∙ h))
-    where
-      by : (t : Test) → start_of t ≡ 1 → false ≡ divisor_one t
-      by positive i = refl
-      by (divisible b d) i = absurd (omega arith)
-      by is_zero i = refl
-
-  pub settles_one : {r : Bool} {at : ℕ} → r ≡ no_factors s → r ≡ false → at ≡ start_of t → ¬ (at ≡ 1)
-      → eqb k 1 ≡ settles t s
-  settles_one e f g h = by t marked (λ i. h (g ∙ i))
-      ∙ ap (λ (b : Bool). b || divisor_one t) (sym f ∙ e)
-    where
-      by : (t : Test) → Marked kind k t → ¬ (start_of t ≡ 1) → eqb k 1 ≡ divisor_one t
-      by positive m i = absurd (i refl)
-      by (divisible b d) m i = ap (λ (n : ℕ). eqb n 1) m.same_divisor
-      by is_zero m i = absurd (i refl)
+pub zero_factors : (s : Sum) → length s ≡ 7 → list_all (λ (a : ℤ). eq_ℤ a (pos 0)) (take 6 (drop 1 s)) ≡ no_factors s
+zero_factors s seven =
+    let six : 6 ≡ length s - 1 = omega arith in
+    let behind = ap (λ (n : ℕ). take n (drop 1 s)) six ∙ part_to_end s 1 in
+    ap (list_all (λ (a : ℤ). eq_ℤ a (pos 0))) behind ∙ all_zeros (drop 1 s) ∙ sym (zeros s)
 
 -- ---- what the test says of c
 
@@ -157,7 +108,8 @@ module _ {c : ℤ} (f : SFits w32 c) where
   divides_read z e = zero_divides ∙ ap (λ (d : ℕ). divides d c) (sym z ∙ e)
 
   module _ {kind k : ℕ} where
-    pub passes_is : {r : Bool} → ((t : Test) → Marked kind k t → r ≡ passes t (to_z w64 (of_z w64 (to_z w32 (of_z w32 c)))))
+    pub passes_is : {r : Bool}
+        → ((t : Test) → Marked kind k t → r ≡ passes t (to_z w64 (of_z w64 (to_z w32 (of_z w32 c)))))
         → (t : Test) → Marked kind k t → r ≡ passes t c
     passes_is e t m = e t m ∙ ap (passes t) (wide_is f)
 
@@ -216,6 +168,18 @@ module _ {kind k : ℕ} where
       sym (ap (λ (b : Bool). divisible b k) (ne_eqb kind 6 (λ e. omega (arith, m.same_kind)))
       ∙ ap (divisible false) m.same_divisor)
   divisor_test n5 n10 is_zero m = absurd (n10 m.same_kind)
+
+  pub yes_test : kind ≡ 6 → (t : Test) → Marked kind k t → t ≡ divisible true k
+  yes_test e positive m = absurd (omega (arith, m.same_kind))
+  yes_test e (divisible true d) m = ap (divisible true) (sym m.same_divisor)
+  yes_test e (divisible false d) m = absurd (omega (arith, m.same_kind))
+  yes_test e is_zero m = absurd (omega (arith, m.same_kind))
+
+  pub no_test : ¬ (kind ≡ 5) → ¬ (kind ≡ 10) → ¬ (kind ≡ 6) → (t : Test) → Marked kind k t → t ≡ divisible false k
+  no_test n5 n10 n6 positive m = absurd (n5 m.same_kind)
+  no_test n5 n10 n6 (divisible true d) m = absurd (n6 m.same_kind)
+  no_test n5 n10 n6 (divisible false d) m = ap (divisible false) (sym m.same_divisor)
+  no_test n5 n10 n6 is_zero m = absurd (n10 m.same_kind)
 
 -- the literal that was put has its node
 pub node_is : (ws : List ℤ) (d : State) (ds : List Node) (s : Sum) (u t : Test) → t ≡ u

@@ -6,7 +6,7 @@ use mathlib.Core.List.{List, [], ◌∷◌}
 use Prim.Native.Nat.{ℕ, zero, suc, ◌+◌, ◌-◌, ◌<◌, ◌≤◌}
 use native.Mathlib.Omega.{arith}
 use borrow.Author.Tests.{eq-eqb, ne_eqb, lt-ltb, le-ltb, le-leb, lt-leb}
-use lib.Dec.{T, eqb, leb, leb→le, eqb→eq}
+use lib.Dec.{T, eqb, leb, eqb→eq}
 use lib.IntN.{ℤ, pos, negsuc, nat_abs, ◌+ℤ◌, ◌-ℤ◌, ◌*ℤ◌, +ℤ_idl}
 use lib.ListN.{length, get_or, drop}
 use lib.Seq.{get_or-take, get_or-drop}
@@ -29,10 +29,11 @@ use Rattle.builder.specs.declared.push.State.{State}
 use Rattle.folding.specs.Answers.{Gives}
 use Rattle.folding.specs.declared.answers.Folded.{Folded}
 use Rattle.literals.specs.Literal.{Fair, start_of}
+use Rattle.literals.proofs.Sevens.{listed, within_at}
 use Rattle.literals.proofs.Sizes.{size_mul, fits_size}
-use Rattle.walks.specs.Sums.{turned, raised, raise, passes_limit, SumAt, SomeSum, TestAt, SomeTestAt}
+use Rattle.walks.specs.Sums.{turned, raised, raise, passes_limit, RaiseOf, SumAt, SomeSum, TestAt, SomeTestAt}
 use Rattle.walks.specs.Normal.{Normalled}
-use Rattle.walks.specs.declared.normal.Normal.TheVariants.{OverLimit, Made}
+use Rattle.std.specs.Prelude.{Option, Some, None, SomeIff}
 
 -- ---- seven words
 
@@ -40,15 +41,7 @@ data Seven : Sum → Type 0 where
   seven : (c a b d e f g : ℤ) → Seven (c ∷ a ∷ b ∷ d ∷ e ∷ f ∷ g ∷ [])
 
 seven_of : (s : Sum) → length s ≡ 7 → Seven s
-seven_of [] h = absurd (omega arith)
-seven_of (c ∷ []) h = absurd (omega arith)
-seven_of (c ∷ a ∷ []) h = absurd (omega arith)
-seven_of (c ∷ a ∷ b ∷ []) h = absurd (omega arith)
-seven_of (c ∷ a ∷ b ∷ d ∷ []) h = absurd (omega arith)
-seven_of (c ∷ a ∷ b ∷ d ∷ e ∷ []) h = absurd (omega arith)
-seven_of (c ∷ a ∷ b ∷ d ∷ e ∷ f ∷ []) h = absurd (omega arith)
-seven_of (c ∷ a ∷ b ∷ d ∷ e ∷ f ∷ g ∷ []) h = seven c a b d e f g
-seven_of (c ∷ a ∷ b ∷ d ∷ e ∷ f ∷ g ∷ i ∷ l) h = absurd (omega arith)
+seven_of s h = subst Seven (sym (listed s h)) (seven _ _ _ _ _ _ _)
 
 -- ---- T or −T
 
@@ -56,12 +49,6 @@ pub turned_long : (minus : Bool) (s : Sum) → length (turned minus s) ≡ lengt
 unfolding turned
 turned_long false s = refl
 turned_long true s = length_scale (negsuc 0) s
-
-within_all : (s : Sum) (v : ℕ) → T (all_within limit s) → nat_abs (factor v s) ≤ limit
-unfolding all_within
-within_all [] v h = omega arith
-within_all (a ∷ s) zero h = leb→le _ _ ((T_and (within limit a) (all_within limit s)).0 h).0
-within_all (a ∷ s) (suc v) h = within_all s v ((T_and (within limit a) (all_within limit s)).0 h).1
 
 negated_within : (s : Sum) → T (all_within limit s) → T (all_within limit (scale (negsuc 0) s))
 unfolding all_within scale
@@ -90,7 +77,7 @@ module _ {ws : List ℤ} {at v : ℕ} {z : ℤ} (inside : v < 7) (fits : SFits w
 
   pub minus_fits : SomeSum ws at → SFits w32 (pos 0 -ℤ to_z w32 (of_z w32 z))
   minus_fits some =
-      let small = within_all some.sum v some.there.small in
+      let small = within_at limit some.sum v some.there.small in
       let is = factor_is some.sum some.there in
       let size : nat_abs z ≤ limit = subst (λ (a : ℤ). nat_abs a ≤ limit) (sym is) small in
       rw (to_z-of_z fits, minus_is z) (fits_size w32 (negsuc 0 *ℤ z) (omega (arith, size_mul (negsuc 0) z)))
@@ -120,21 +107,6 @@ below_zero n =
     ∙ ap negsuc (let e : suc (suc n) - 2 ≡ n = omega arith in e)
 
 module _ {c : ℤ} (fits : SFits w32 c) where
-  same_bits : eqb (of_z w32 c) limit ≡ eq_ℤ c (pos limit)
-  same_bits = by c fits
-    where
-      by : (c : ℤ) → SFits w32 c → eqb (of_z w32 c) limit ≡ eq_ℤ c (pos limit)
-      by (pos n) f = refl
-      by (negsuc n) f = ne_eqb (of_z w32 (negsuc n)) limit (λ e. omega (arith, f.sfits))
-
-  pub passes_one : (one : Bool) → one ≡ true → eqb (of_z w32 c) limit ≡ passes_limit one c
-  passes_one true e = same_bits
-  passes_one false e = absurd (subst T (sym e) tt)
-
-  pub passes_none : (one : Bool) → one ≡ false → false ≡ passes_limit one c
-  passes_none false e = refl
-  passes_none true e = absurd (subst T e tt)
-
   sum_fits : eq_ℤ c (pos limit) ≡ false → SFits w32 (c +ℤ pos 1)
   sum_fits h = by c fits h
     where
@@ -145,21 +117,40 @@ module _ {c : ℤ} (fits : SFits w32 c) where
       by (negsuc zero) f h = record { sfits = omega arith }
       by (negsuc (suc n)) f h = rw (below_zero n) (record { sfits = omega (arith, f.sfits) })
 
-  pub more_fits : (one : Bool) → one ≡ true → passes_limit one c ≡ false → SFits w32 (to_z w32 (of_z w32 c) +ℤ pos 1)
-  more_fits true e h = rw (to_z-of_z fits) (sum_fits h)
-  more_fits false e h = absurd (subst T (sym e) tt)
+  -- of c in 32 bits there is one more where c is not the limit
+  limit_is : ¬ (SFits w32 (c +ℤ pos 1)) → eq_ℤ c (pos limit) ≡ true
+  limit_is h = by (eq_ℤ c (pos limit)) refl
+    where
+      by : (e : Bool) → eq_ℤ c (pos limit) ≡ e → e ≡ true
+      by true e = refl
+      by false e = absurd (h (sum_fits e))
 
-  pub more_one : (one : Bool) → one ≡ true → passes_limit one c ≡ false
-      → to_z w32 (of_z w32 (to_z w32 (of_z w32 c) +ℤ pos 1)) ≡ raise one c
-  unfolding raise
-  more_one true e h =
-      to_z-of_z (more_fits true e h) ∙ ap (λ (a : ℤ). a +ℤ pos 1) (to_z-of_z fits) ∙ sym (one_more c)
-  more_one false e h = absurd (subst T (sym e) tt)
+  limit_not : SFits w32 (c +ℤ pos 1) → eq_ℤ c (pos limit) ≡ false
+  limit_not h = by c h
+    where
+      by : (c : ℤ) → SFits w32 (c +ℤ pos 1) → eq_ℤ c (pos limit) ≡ false
+      by (pos n) f = ne_eqb n limit (λ e. omega (arith, f.sfits, e))
+      by (negsuc n) f = refl
 
-  pub more_none : (one : Bool) → one ≡ false → to_z w32 (of_z w32 c) ≡ raise one c
+  pub raise_one : (one : Bool) → one ≡ true → (r : Option ℤ)
+      → SomeIff r (SFits w32 (to_z w32 (of_z w32 c) +ℤ pos 1)) (to_z w32 (of_z w32 c) +ℤ pos 1) → RaiseOf one c r
+  raise_one false e r h = absurd (subst T (sym e) tt)
+  raise_one true e r h =
+      by r (subst (λ (a : ℤ). SomeIff r (SFits w32 (a +ℤ pos 1)) (a +ℤ pos 1)) (to_z-of_z fits) h)
+    where
+      by : (r : Option ℤ) → SomeIff r (SFits w32 (c +ℤ pos 1)) (c +ℤ pos 1) → RaiseOf true c r
+      by None h = limit_is h
+      by (Some z) h = unfold raise in (limit_not h.0, h.1 ∙ sym (one_more c))
+
+  pub raise_none : (one : Bool) → one ≡ false → (passes_limit one c ≡ false) × (to_z w32 (of_z w32 c) ≡ raise one c)
   unfolding raise
-  more_none false e = to_z-of_z fits
-  more_none true e = absurd (subst T e tt)
+  raise_none false e = (refl, to_z-of_z fits)
+  raise_none true e = absurd (subst T e tt)
+
+  pub raise_fits : (one : Bool) → passes_limit one c ≡ false → {z : ℤ} → z ≡ raise one c → SFits w32 z
+  unfolding raise
+  raise_fits true e is = subst (SFits w32) (sym (is ∙ one_more c)) (sum_fits e)
+  raise_fits false e is = subst (SFits w32) (sym is) fits
 
 -- ---- where T starts
 
@@ -187,6 +178,19 @@ sum_words one u h w a b d e f g p p1 p2 p3 p4 p5 p6 = by one (seven_of u h) p p1
     by true (seven c a0 b0 d0 e0 f0 g0) p p1 p2 p3 p4 p5 p6 = unfold raised raise one_plus add in
         ap₂ ◌∷◌ p (ap₂ ◌∷◌ (p1 ∙ sym (+ℤ_idl a0)) (ap₂ ◌∷◌ (p2 ∙ sym (+ℤ_idl b0)) (ap₂ ◌∷◌ (p3 ∙ sym (+ℤ_idl d0))
         (ap₂ ◌∷◌ (p4 ∙ sym (+ℤ_idl e0)) (ap₂ ◌∷◌ (p5 ∙ sym (+ℤ_idl f0)) (ap₂ ◌∷◌ (p6 ∙ sym (+ℤ_idl g0)) refl))))))
+
+-- where c comes first and each a behind it
+pub words_are : (one : Bool) (u : Sum) → length u ≡ 7 → (l : Sum) → length l ≡ 7
+    → get_or l 0 (pos 0) ≡ raise one (factor 0 u)
+    → ((v : ℕ) → 1 ≤ v → v < 7 → get_or l v (pos 0) ≡ factor v u) → l ≡ raised one u
+words_are one u long l all first each = by (seven_of l all) first each
+  where
+    by : {l : Sum} → Seven l → get_or l 0 (pos 0) ≡ raise one (factor 0 u)
+        → ((v : ℕ) → 1 ≤ v → v < 7 → get_or l v (pos 0) ≡ factor v u) → l ≡ raised one u
+    by (seven c a b d e f g) first each =
+        sum_words one u long c a b d e f g first (each 1 (omega arith) (omega arith))
+        (each 2 (omega arith) (omega arith)) (each 3 (omega arith) (omega arith))
+        (each 4 (omega arith) (omega arith)) (each 5 (omega arith) (omega arith)) (each 6 (omega arith) (omega arith))
 
 pub raised_long : (one : Bool) (u : Sum) → length u ≡ 7 → length (raised one u) ≡ 7
 raised_long one u h = sym (ap length (sum_words one u h _ _ _ _ _ _ _ refl refl refl refl refl refl refl))
@@ -216,7 +220,7 @@ module _ (u : Sum) (long : length u ≡ 7) (small : T (all_within limit u)) wher
   within_raised false = unfold raised in is_true (all_within limit u) small
   within_raised true =
       ap (all_within limit) (sym (sum_words true u long _ _ _ _ _ _ _ refl refl refl refl refl refl refl))
-      ∙ rest (seven_of u long) small ∙ within_more (factor 0 u) (within_all u 0 small)
+      ∙ rest (seven_of u long) small ∙ within_more (factor 0 u) (within_at limit u 0 small)
     where
       rest : {u : Sum} → Seven u → T (all_within limit u)
           → all_within limit ((pos 1 +ℤ factor 0 u) ∷ factor 1 u ∷ factor 2 u ∷ factor 3 u
@@ -249,20 +253,20 @@ module _ {ws : List ℤ} {kind k : ℕ} {t : Test} {s : Sum} (there : TestAt ws 
       clear true = refl
       clear false = refl
 
-  -- c and the answer of `over`
-  module _ {c : ℤ} {r : Bool} (fits : SFits w32 c) (first : c ≡ factor 0 (turned minus s))
-      (told : r ≡ passes_limit one (to_z w32 (of_z w32 c))) where
-    over_told : over_limit t put_sum ≡ r
-    over_told = over_is ∙ sym (told ∙ ap (passes_limit one) (to_z-of_z fits ∙ first))
+  -- c as it is read, and whether it passes the limit
+  module _ {c : ℤ} (fits : SFits w32 c) (first : c ≡ factor 0 (turned minus s)) where
+    over_told : {r : Bool} → passes_limit one (to_z w32 (of_z w32 c)) ≡ r → over_limit t put_sum ≡ r
+    over_told e = over_is ∙ sym (ap (passes_limit one) (to_z-of_z fits ∙ first)) ∙ e
 
-    pub test_over : r ≡ true → (vs : List ℤ) (b : State) (ds : List Node)
-        → Normalled vs b ds (Literal t put_sum) OverLimit
+    pub test_over : passes_limit one (to_z w32 (of_z w32 c)) ≡ true → (vs : List ℤ) (b : State) (ds : List Node)
+        → Normalled vs b ds (Literal t put_sum) None
     unfolding Normalled some_literal
-    test_over e vs b ds = subst T (sym (over_told ∙ e)) tt
+    test_over e vs b ds = subst T (sym (over_told e)) tt
 
-    pub test_made : r ≡ false → (vs : List ℤ) (b : State) (ds : List Node) (f : Folded) (l : Sum) → l ≡ put_sum
-        → Gives vs b ds (fold_literal t l) f → Normalled vs b ds (Literal t put_sum) (Made f)
+    pub test_made : passes_limit one (to_z w32 (of_z w32 c)) ≡ false → (vs : List ℤ) (b : State) (ds : List Node)
+        (f : Folded) (l : Sum) → l ≡ put_sum → Gives vs b ds (fold_literal t l) f
+        → Normalled vs b ds (Literal t put_sum) (Some f)
     unfolding Normalled some_literal fold
     test_made e vs b ds f l is h =
-        let within_limit : T (not (over_limit t put_sum)) = subst (λ (x : Bool). T (not x)) (sym (over_told ∙ e)) tt in
+        let within_limit : T (not (over_limit t put_sum)) = subst (λ (x : Bool). T (not x)) (sym (over_told e)) tt in
         (within_limit, subst (λ (m : Sum). Gives vs b ds (fold_literal t m) f) is h)

@@ -23,13 +23,12 @@ use Rattle.folding.proofs.AnswerLaws.{building_then}
 use Rattle.walks.specs.Sums.{turned, raised, SumAt, TestAt, SomeTestAt}
 use Rattle.walks.specs.Pairs.{Pair, SomePair}
 use Rattle.walks.specs.Normal.{Normalled, ZeroReady, SomeZeroReady}
-use Rattle.walks.specs.declared.normal.Normal.{Normal}
-use Rattle.walks.specs.declared.normal.Normal.TheVariants.{OverLimit, Made}
+use Rattle.std.specs.Prelude.{Option, Some, None}
 use Rattle.walks.proofs.SumLaws.{turned_long, raised_long}
 use Rattle.walks.proofs.PairLaws.{right_over, left_over, BothMade, both_made, join_made, made_gives}
 
 -- what `test` answers
-abbrev pub Tested : List ℤ → ℕ → ℕ → Bool → Bool → List ℤ → List ℤ → State → Normal → Type 0
+abbrev pub Tested : List ℤ → ℕ → ℕ → Bool → Bool → List ℤ → List ℤ → State → Option Folded → Type 0
 Tested bs kind k minus one ws vs b f = (t : Test) (s : Sum) (ds : List Node) → TestAt bs kind k t s → Built ws b ds
     → Normalled vs b ds (Literal t (raised one (turned minus s))) f
 
@@ -68,28 +67,29 @@ side_words one minus {bs} {s} at =
 
 -- ---- the right side is answered
 
-pub record RightTested (bs ws us : List ℤ) (b : State) (plainly : Bool) (f : Normal) : Type 0 where
+pub record RightTested (bs ws us : List ℤ) (b : State) (plainly : Bool) (f : Option Folded) : Type 0 where
   pub answer : Tested bs 5 1 false plainly ws us b f
   pub kept : length us ≡ length ws
 
-module _ {bs ws us : List ℤ} {b : State} {plainly : Bool} {f : Normal} (right : RightTested bs ws us b plainly f) where
+module _ {bs ws us : List ℤ} {b : State} {plainly : Bool} {f : Option Folded}
+    (right : RightTested bs ws us b plainly f) where
   right_answer : (s : Sum) (ds : List Node) → ZeroReady bs ws b s ds → Normalled us b ds (zero_right plainly s) f
   right_answer s ds ready = right.answer positive s ds (positive_at ready.at) ready.building.built
 
-  pub zero_right_over : f ≡ OverLimit → (x : ℕ) (s : Sum) (ds : List Node) → ZeroReady bs ws b s ds
-      → Normalled us b ds (normal_literal plainly x is_zero s) f
+  pub zero_right_over : f ≡ None → (x : ℕ) (s : Sum) (ds : List Node) → ZeroReady bs ws b s ds
+      → Normalled us b ds (normal_literal plainly x is_zero s) None
   zero_right_over e x s ds ready =
-      subst (λ (r : Rule). Normalled us b ds r f) (zero_is plainly x s)
+      subst (λ (r : Rule). Normalled us b ds r None) (zero_is plainly x s)
       (right_over (junction plainly) (zero_right plainly s) (zero_left plainly s) us b ds f e (right_answer s ds ready))
 
 -- it is put: r is its answer, in state c
-pub record RightPut (bs ws us : List ℤ) (b : State) (plainly : Bool) (f : Normal) (r : Folded) (c : State)
+pub record RightPut (bs ws us : List ℤ) (b : State) (plainly : Bool) (f : Option Folded) (r : Folded) (c : State)
     : Type 0 where
   pub right : RightTested bs ws us b plainly f
-  pub made : f ≡ Made r
+  pub made : f ≡ Some r
   pub state : c ≡ after b r
 
-module _ {bs ws us : List ℤ} {b : State} {plainly : Bool} {f : Normal} {r : Folded} {c : State}
+module _ {bs ws us : List ℤ} {b : State} {plainly : Bool} {f : Option Folded} {r : Folded} {c : State}
     (put : RightPut bs ws us b plainly f r c) where
   -- what is built with it
   abbrev behind : Sum → List Node → List Node
@@ -111,13 +111,13 @@ module _ {bs ws us : List ℤ} {b : State} {plainly : Bool} {f : Normal} {r : Fo
 
 -- ---- and then the left side
 
-pub record LeftTested (bs ws us vs : List ℤ) (b : State) (plainly : Bool) (f : Normal) (r : Folded) (c : State)
-    (g : Normal) : Type 0 where
+pub record LeftTested (bs ws us vs : List ℤ) (b : State) (plainly : Bool) (f : Option Folded) (r : Folded) (c : State)
+    (g : Option Folded) : Type 0 where
   pub right : RightPut bs ws us b plainly f r c
   pub answer : Tested bs 5 1 true plainly us vs c g
   pub kept : length vs ≡ length us
 
-module _ {bs ws us vs : List ℤ} {b : State} {plainly : Bool} {f g : Normal} {r : Folded} {c : State}
+module _ {bs ws us vs : List ℤ} {b : State} {plainly : Bool} {f g : Option Folded} {r : Folded} {c : State}
     (left : LeftTested bs ws us vs b plainly f r c g) where
   left_answer : (s : Sum) (ds : List Node) → ZeroReady bs ws b s ds
       → Normalled vs (after b r) (behind left.right s ds) (zero_left plainly s) g
@@ -126,15 +126,15 @@ module _ {bs ws us vs : List ℤ} {b : State} {plainly : Bool} {f g : Normal} {r
       subst (λ (d : State). Normalled vs d es (zero_left plainly s) g) left.right.state
       (left.answer positive s es (positive_at ready.at) (building_behind left.right s ds ready).built)
 
-  pub zero_left_over : g ≡ OverLimit → (x : ℕ) (s : Sum) (ds : List Node) → ZeroReady bs ws b s ds
-      → Normalled vs b ds (normal_literal plainly x is_zero s) g
+  pub zero_left_over : g ≡ None → (x : ℕ) (s : Sum) (ds : List Node) → ZeroReady bs ws b s ds
+      → Normalled vs b ds (normal_literal plainly x is_zero s) None
   zero_left_over e x s ds ready =
-      subst (λ (y : Rule). Normalled vs b ds y g) (zero_is plainly x s)
+      subst (λ (y : Rule). Normalled vs b ds y None) (zero_is plainly x s)
       (left_over (junction plainly) (zero_right plainly s) (zero_left plainly s) vs b _ ds _ g e
       (left_answer s ds ready))
 
   -- it is put too: l is its answer
-  module _ {l : Folded} (put : g ≡ Made l) where
+  module _ {l : Folded} (put : g ≡ Some l) where
     both_sides : (s : Sum) (ds : List Node) → ZeroReady bs ws b s ds
         → BothMade (junction plainly) (zero_right plainly s) (zero_left plainly s) vs b ds r l
     both_sides s ds ready =
@@ -160,9 +160,9 @@ module _ {bs ws us vs : List ℤ} {b : State} {plainly : Bool} {f g : Normal} {r
     pub zero_made : (os : List ℤ) (both : Folded)
         → ((x y : Rule) (ds : List Node) → Pair vs b ds x y r l → Gives os b ds (fold_join (junction plainly) y x) both)
         → (x : ℕ) (s : Sum) (ds : List Node) → ZeroReady bs ws b s ds
-        → Normalled os b ds (normal_literal plainly x is_zero s) (Made both)
+        → Normalled os b ds (normal_literal plainly x is_zero s) (Some both)
     zero_made os both joined x s ds ready =
         let sides = both_sides s ds ready in
-        subst (λ (y : Rule). Normalled os b ds y (Made both)) (zero_is plainly x s)
+        subst (λ (y : Rule). Normalled os b ds y (Some both)) (zero_is plainly x s)
         (join_made (junction plainly) (zero_right plainly s) (zero_left plainly s) vs os b ds r l both sides
         (joined _ _ ds sides.pair))

@@ -7,12 +7,16 @@ use Rattle.rules.specs.Table.{Node, most_words}
 use Rattle.rules.specs.Fold.{fold_not}
 use Rattle.rules.specs.Laws.{WellFormed}
 use Rattle.rules.proofs.Sizes.{weight, total}
+use Rattle.rules.specs.Calls.{words}
 use Rattle.tables.specs.Standing.{Stands, RuleAt}
+use Rattle.tables.specs.declared.extent.Extent.{Extent}
+use Rattle.tables.specs.declared.kind.Kind.{Kind}
+use Rattle.tables.specs.declared.kind.Kind.TheVariants as kind
+use Rattle.tables.specs.declared.part.Part.{Part}
 use Rattle.builder.specs.Built.{most_counted}
 use Rattle.builder.specs.declared.push.State.{State}
 use Rattle.folding.specs.Answers.{Gives}
 use Rattle.folding.specs.declared.answers.Folded.{Folded}
-use Rattle.walks.specs.declared.chain.Links.{Links}
 
 -- a not or a quantifier
 unfoldable pub unary : Rule → Bool
@@ -56,15 +60,21 @@ wrap (suc k) (Literal t s) f = f
 wrap (suc k) (Bind q v a) f = Bind q v (wrap k a f)
 
 -- the words of a not and of a quantifier, by their kinds; 0 for every other kind
-pub record LinkOf (kind w : ℕ) : Type 0 where
-  pub negation : kind ≡ 4 → w ≡ 1
-  pub for_some : kind ≡ 8 → w ≡ 2
-  pub for_all : kind ≡ 9 → w ≡ 2
-  pub other : ¬ (kind ≡ 4) → ¬ (kind ≡ 8) → ¬ (kind ≡ 9) → w ≡ 0
-  pub few : w ≤ 2
+abbrev pub link_words : Kind → ℕ
+link_words kind.False = 0
+link_words kind.True = 0
+link_words kind.And = 0
+link_words kind.Or = 0
+link_words kind.Not = 1
+link_words kind.Positive = 0
+link_words kind.Divisible = 0
+link_words kind.Indivisible = 0
+link_words kind.ForSome = 2
+link_words kind.ForAll = 2
+link_words kind.Zero = 0
 
 -- a chain at the start of r: at most so many nodes, and as many as there are
-pub record ChainOf (most : ℕ) (r : Rule) (c : Links) : Type 0 where
+pub record ChainOf (most : ℕ) (r : Rule) (c : Extent) : Type 0 where
   pub few : c.nodes ≤ most
   pub chained : Chained c.nodes r
   pub wide : c.words ≡ chain_words c.nodes r
@@ -112,3 +122,8 @@ pub record SomeWrapping (es bs : List ℤ) (n p k : ℕ) (ws : List ℤ) (b : St
   pub under : Rule
   pub tail : List Node
   pub wrapping : Wrapping es bs n p k ws b rule under tail inner
+
+-- the same of a part of a table
+abbrev pub WrappingIn : Part → ℕ → List ℤ → State → Rule → Rule → List Node → Folded → Type 0
+WrappingIn q k ws b r f ds inner =
+    Wrapping (words q.entries.now) (words q.bodies.now) q.node q.place k ws b r f ds inner

@@ -9,8 +9,7 @@ use Rattle.rules.specs.Laws.{DivisorOf}
 use Rattle.builder.specs.Built.{Countable}
 use Rattle.builder.specs.declared.push.State.{State}
 use Rattle.literals.specs.Literal.{Marked, SomeLiteral}
-use Rattle.literals.specs.Changes.{becomes, Usable, changed_sum, changed_test, divisor_or_none}
-use Rattle.literals.specs.declared.change.Change.{Change}
+use Rattle.literals.specs.Changes.{Change, becomes, Usable, changed_sum, changed_test, divisor_or_none}
 
 -- some test has this kind and, where it has a divisor, this one, which is not over the limit
 pub record SomeMarked (kind k : ℕ) : Type 0 where

@@ -1,6 +1,7 @@
 -- A sum T of a table as step 1 puts it into a literal: T or −T, and with `one` one more.
 -- Assumes nothing.
-use Rattle.std.specs.Prelude.{◌≡◌, Bool, true, false, ◌&&◌, List, ℕ, ◌+◌, ◌≤◌, T, ℤ, pos, ◌+ℤ◌, length, take, drop}
+use Rattle.std.specs.Prelude.{◌≡◌, Bool, true, false, ◌&&◌, Option, Some, None, List, ℕ, ◌+◌, ◌≤◌, T, ℤ, pos, ◌+ℤ◌}
+use Rattle.std.specs.Prelude.{length, take, drop}
 use Rattle.whole.specs.Integers.{eq_ℤ}
 use Rattle.rules.specs.Sum.{Sum, limit, all_within, negate, one_plus}
 use Rattle.rules.specs.Rule.{Test}
@@ -23,6 +24,11 @@ raise true c = pos 1 +ℤ c
 
 abbrev pub passes_limit : Bool → ℤ → Bool
 passes_limit one c = one && eq_ℤ c (pos limit)
+
+-- it is c of such a sum; none: that passes the limit
+abbrev pub RaiseOf : Bool → ℤ → Option ℤ → Type 0
+RaiseOf one c None = passes_limit one c ≡ true
+RaiseOf one c (Some z) = (passes_limit one c ≡ false) × (z ≡ raise one c)
 
 -- the seven words of s, as a table can hold them, stand from word `at` on
 pub record SumAt (ws : List ℤ) (at : ℕ) (s : Sum) : Type 0 where

@@ -7,12 +7,14 @@ use Rattle.rules.specs.Table.{Node}
 use Rattle.rules.specs.Literals.{some_literal, map_literals}
 use Rattle.rules.specs.Eliminate.{over_limit}
 use Rattle.rules.proofs.Sizes.{weight}
+use Rattle.rules.specs.Calls.{words}
 use Rattle.tables.specs.Standing.{RuleAt}
+use Rattle.tables.specs.declared.part.Part.{Part}
 use Rattle.builder.specs.Built.{Building}
 use Rattle.builder.specs.declared.push.State.{State}
 use Rattle.walks.specs.Chain.{unary}
-use Rattle.literals.specs.Changes.{becomes, Usable}
-use Rattle.literals.specs.declared.change.Change.{Change}
+use Rattle.literals.specs.Changes.{Change, change_of, put_of, becomes, Usable}
+use Rattle.literals.specs.declared.change.Change.{Change as Put}
 
 -- the rule with its literals changed, before it is folded
 unfoldable pub changed : Change → Sum → Rule → Rule
@@ -33,6 +35,17 @@ pub record Core (es bs : List ℤ) (n p : ℕ) (c : Change) (u : Sum) (ws : List
     : Type 0 where
   pub ready : Ready es bs n p c u ws b a ds
   pub bare : unary a ≡ false
+
+-- ---- the same of a part of a table, and of a change as the code has it
+
+abbrev pub changed_by : Put → Rule → Rule
+changed_by c a = changed (change_of c) (put_of c) a
+
+abbrev pub ReadyIn : Part → Put → List ℤ → State → Rule → List Node → Type 0
+ReadyIn q c ws b = Ready (words q.entries.now) (words q.bodies.now) q.node q.place (change_of c) (put_of c) ws b
+
+abbrev pub CoreIn : Part → Put → List ℤ → State → Rule → List Node → Type 0
+CoreIn q c ws b = Core (words q.entries.now) (words q.bodies.now) q.node q.place (change_of c) (put_of c) ws b
 
 -- it is so of some rule that stands there and some nodes that are built
 pub record SomeRule (Is : Rule → List Node → Type 0) : Type 0 where

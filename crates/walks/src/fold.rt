@@ -5,103 +5,62 @@ ghost use Rattle.rules.specs.Table.{Node};
 ghost use Rattle.rules.specs.Fold.{fold as fold_of};
 ghost use Rattle.rules.specs.Calls.{words as words_of};
 ghost use Rattle.folding.specs.Answers.{Gives};
-ghost use Rattle.walks.specs.Walk.{changed, Ready, Core, SomeRule};
+ghost use Rattle.walks.specs.Walk.{changed_by, ReadyIn, CoreIn, SomeRule};
 
 use crate::{chain, literal};
 use builder::push::State;
 use folding::answers;
 use folding::answers::Folded;
 use literals::change::Change;
-use tables::{sides, words};
+use tables::kind::Kind;
+use tables::part::Part;
 
-// The rule that starts these entries and bodies, as this node at this place.
-#[cycle(core_fold)]
-pub fn fold(
-    entries: &[u8],
-    bodies: &[u8],
-    node: usize,
-    place: usize,
-    change: Change,
-    u: &[i64],
-    out: &mut [u8],
-    b: State,
-) -> Folded
-    requires { SomeRule (Ready (words_of entries.now) (words_of bodies.now) node place change u.now
-        (words_of out.old) b) }
-    ensures { (a : Rule) (ds : List Node)
-        → Ready (words_of entries.now) (words_of bodies.now) node place change u.now
-        (words_of out.old) b a ds
-        → Gives (words_of out.new) b ds (fold_of (changed change u.now a)) result }
+// The rule of this part. Most start with no chain, and cost none of its loops.
+#[cycle(chained_core_fold)]
+#[inline(always)]
+pub fn fold(part: Part, change: Change, out: &mut [u8], b: State) -> Folded
+    requires { SomeRule (ReadyIn part change (words_of out.old) b) }
+    ensures { (a : Rule) (ds : List Node) → ReadyIn part.entry change.entry (words_of out.old) b a ds
+        → Gives (words_of out.new) b ds (fold_of (changed_by change.entry a)) result }
 {
-    let links = chain::chain(bodies, 16384);
-    let from = links.nodes * 4;
-    let start = links.words * 4;
-    let inner = core(
-        &entries[from..],
-        &bodies[start..],
-        node + links.nodes,
-        place + links.words,
-        change,
-        u,
-        out,
-        b,
-    );
-    chain::wrapped(entries, bodies, node, place, links.nodes, out, b, inner)
+    if chain::link(part.kind()) == 0 {
+        return core(part, change, out, b);
+    }
+    chained(part, change, out, b)
+}
+
+// The same past a chain.
+#[cycle(chained_core_fold)]
+#[inline(never)]
+fn chained(part: Part, change: Change, out: &mut [u8], b: State) -> Folded
+    requires { SomeRule (ReadyIn part change (words_of out.old) b) }
+    ensures { (a : Rule) (ds : List Node) → ReadyIn part.entry change.entry (words_of out.old) b a ds
+        → Gives (words_of out.new) b ds (fold_of (changed_by change.entry a)) result }
+{
+    let links = chain::chain(part.bodies, chain::MOST_NODES);
+    let inner = core(part.behind(links.nodes, links.words), change, out, b);
+    chain::wrapped(part, links.nodes, out, b, inner)
 }
 
 // The same of a rule that is neither a not nor a quantifier. The right side is put first: where it settles an and or an
 // or, the left one is not looked at.
-#[cycle(core_fold)]
-fn core(
-    entries: &[u8],
-    bodies: &[u8],
-    node: usize,
-    place: usize,
-    change: Change,
-    u: &[i64],
-    out: &mut [u8],
-    b: State,
-) -> Folded
-    requires { SomeRule (Core (words_of entries.now) (words_of bodies.now) node place change u.now
-        (words_of out.old) b) }
-    ensures { (a : Rule) (ds : List Node)
-        → Core (words_of entries.now) (words_of bodies.now) node place change u.now
-        (words_of out.old) b a ds
-        → Gives (words_of out.new) b ds (fold_of (changed change u.now a)) result }
+#[cycle(chained_core_fold)]
+fn core(part: Part, change: Change, out: &mut [u8], b: State) -> Folded
+    requires { SomeRule (CoreIn part change (words_of out.old) b) }
+    ensures { (a : Rule) (ds : List Node) → CoreIn part.entry change.entry (words_of out.old) b a ds
+        → Gives (words_of out.new) b ds (fold_of (changed_by change.entry a)) result }
 {
-    let kind = words::natural(bodies, 0);
-    if kind < 2 {
-        return Folded::Known(kind == 1);
+    let kind = part.kind();
+    match kind {
+        Kind::False | Kind::True => return Folded::Known(kind.is_true()),
+        Kind::And | Kind::Or => {}
+        _ => return literal::literal(part.bodies, change, out, b),
     }
-    if 3 < kind {
-        return literal::literal(bodies, change, u, out, b);
-    }
-    let side = sides::right(entries, bodies, node, place);
-    let from = side.entries;
-    let start = side.bodies;
-    let right = fold(
-        &entries[from..],
-        &bodies[start..],
-        side.node,
-        side.place,
-        change,
-        u,
-        out,
-        b,
-    );
-    if answers::settles(kind == 2, right) {
+    let both = kind.is_and();
+    let right = fold(part.right(), change, out, b);
+    if answers::settles(both, right) {
         return right;
     }
-    let c = answers::after(b, right);
-    let left = fold(
-        &entries[4..],
-        &bodies[8..],
-        node + 1,
-        place + 2,
-        change,
-        u,
-        out,
-        c,
-    );
-    answers::joined(out, kind == 2, b, right, left)
+    let left = fold(part.left(), change, out, answers::after(b, right));
+    answers::joined(out, both, b, right, left)
 }

@@ -8,39 +8,40 @@ ghost use Rattle.rules.specs.Calls.{words as words_of};
 ghost use Rattle.builder.specs.Built.{Built};
 ghost use Rattle.folding.specs.Answers.{Gives};
 ghost use Rattle.literals.specs.Literal.{LiteralAt};
-ghost use Rattle.literals.specs.Changes.{becomes, changed_sum, changed_test};
+ghost use Rattle.literals.specs.Changes.{change_of, put_of, becomes, changed_sum, changed_test};
 ghost use Rattle.walks.specs.Literals.{SomeChangeable, SomeKept};
 
 use crate::put;
 use builder::push::State;
 use folding::answers::Folded;
 use literals::change;
-use literals::change::{Change, Settled};
-use tables::words;
+use literals::change::Change;
+use tables::kind::Kind;
 
 // The literal whose body starts these words, which the change keeps a literal, changed and folded.
-fn kept(bodies: &[u8], change: Change, u: &[i64], out: &mut [u8], b: State) -> Folded
-    requires { SomeKept (words_of bodies.now) change u.now b }
+fn kept(bodies: &[u8], change: Change, out: &mut [u8], b: State) -> Folded
+    requires { SomeKept (words_of bodies.now) (change_of change) (put_of change) b }
     ensures { (n : ℕ) (t : Test) (s : Sum) (ds : List Node) → LiteralAt (words_of bodies.now) n t s
         → Built (words_of out.old) b ds
         → Gives (words_of out.new) b ds
-        (fold_literal (changed_test change s t) (changed_sum change u.now s)) result }
+        (fold_literal (changed_test (change_of change.entry) s t)
+        (changed_sum (change_of change.entry) (put_of change.entry) s)) result }
 {
-    let kind = words::natural(bodies, 0);
+    let kind = Kind::at(bodies, 0);
     let k = change::divisor(bodies, change);
-    let sum = change::sum(bodies, change, u);
+    let sum = change::sum(bodies, change);
     put::put(kind, k, &sum, out, b)
 }
 
 // The literal whose body starts these words, changed and folded.
-pub fn literal(bodies: &[u8], change: Change, u: &[i64], out: &mut [u8], b: State) -> Folded
-    requires { SomeChangeable (words_of bodies.now) change u.now b }
+pub fn literal(bodies: &[u8], change: Change, out: &mut [u8], b: State) -> Folded
+    requires { SomeChangeable (words_of bodies.now) (change_of change) (put_of change) b }
     ensures { (n : ℕ) (t : Test) (s : Sum) (ds : List Node) → LiteralAt (words_of bodies.now) n t s
         → Built (words_of out.old) b ds
-        → Gives (words_of out.new) b ds (fold (becomes change u.now t s)) result }
+        → Gives (words_of out.new) b ds (fold (becomes (change_of change.entry) (put_of change.entry) t s)) result }
 {
     match change::far(bodies, change) {
-        Settled::Yes(v) => Folded::Known(v),
-        Settled::No => kept(bodies, change, u, out, b),
+        Some(v) => Folded::Known(v),
+        None => kept(bodies, change, out, b),
     }
 }

@@ -1,42 +1,46 @@
 -- `front::given` meets its contract: the words are put from the last to the first.
 -- Assumes nothing.
 use mir.Syntax.{w32}
-use mathlib.Core.Path.{refl, ◌∙◌}
+use mir.Val.{SFits}
+use mathlib.Core.Path.{◌≡◌, sym, ap, ◌∙◌, subst}
+use mathlib.Core.List.{List, [], ◌∷◌, ◌++◌, append_assoc, append-nil}
 use native.Mathlib.Omega.{arith}
+use lib.ListN.{length, length-append}
+use lib.IntN.{ℤ}
 use mir.Facts.{to_z-of_z}
-use borrow.Author.Rules.{rules, sfits_of}
-use Rattle.builder.proofs.EndLaws.{sum_none, sum_more, sum_all}
+use borrow.Author.Rules.{rules}
+use Rattle.std.proofs.lemmas.List.{nil_from_length}
+use Rattle.rules.specs.Calls.{words}
+use Rattle.builder.specs.Built.{Ends}
+use Rattle.builder.proofs.EndLaws.{word_is}
 use Rattle.builder.proofs.front.given.Goals as goal
 
-pub loop-i-init : goal.loop-i-init
-loop-i-init c = (search rules, refl, refl, λ l b. sum_none c.args.sum.now _ _ l b)
-
-pub at-requires : goal.at-requires
-at-requires c = omega arith
+pub loop-v-init : goal.loop-v-init
+loop-v-init c =
+    let all : c.args.sum.now ≡ c.into_iter-v-iterator.result.iter.rest.now = search rules in
+    ([], all ∙ sym (append-nil _), omega arith, λ l b. b)
 
 pub word-u-requires : goal.word-u-requires
-word-u-requires c = omega arith
+word-u-requires c =
+    let (done, split, counted, ends) = c.loop-v.invariant in
+    omega (arith, ap length split, ap length c.in-Some.ensures.steps, length-append {A = ℤ})
 
-pub loop-i-smaller : goal.loop-i-smaller
-loop-i-smaller c = omega arith
-
-pub loop-i-preserved : goal.loop-i-preserved
-loop-i-preserved c =
-    let put = c.word-u in
-    let loop = c.loop-i in
-    let inv = loop.invariant in
-    let got = c.at in (
+pub loop-v-preserved : goal.loop-v-preserved
+loop-v-preserved c =
+    let (done, split, counted, ends) = c.loop-v.invariant in
+    let v = c.in-Some.v.now in
+    let fits : SFits w32 v = search rules in (
+      v ∷ done,
+      split ∙ ap (λ (m : List ℤ). m ++ done) c.in-Some.ensures.steps ∙ append_assoc _ (v ∷ []) done,
       omega arith,
-      omega arith,
-      put.auto.out ∙ inv.2,
-      λ l b. sum_more _ _ _ l loop.i _ (omega arith) (omega arith) (to_z-of_z {w = w32} (sfits_of got.type_inv) ∙ got.ensures)
-          (put.ensures.0 _ (inv.3 l b)),
+      λ l b. word_is _ _ _ _ (done ++ l) (to_z-of_z fits) (c.word-u.ensures.0 _ (ends l b)),
     )
-
-pub shape_of-out : goal.shape_of-out
-shape_of-out c = c.loop-i.invariant.2
 
 pub returns : goal.returns
 returns c =
-    let loop = c.loop-i in
-    (λ l b. sum_all _ _ _ l loop.i (omega arith) (loop.invariant.3 l b), omega arith)
+    let (done, split, counted, ends) = c.loop-v.invariant in
+    let none = nil_from_length c.loop-v.v-iterator.iter.rest.now c.in-None.ensures.steps.0 in
+    let all : done ≡ c.args.sum.now = sym (split ∙ ap (λ (m : List ℤ). m ++ done) none) in (
+      λ l b. subst (λ (m : List ℤ). Ends (words c.loop-v.out) c.loop-v.u (m ++ l)) all (ends l b),
+      omega (arith, ap length all),
+    )
