@@ -1,29 +1,32 @@
 -- The bounds that are kept, by the places of their literals: when two are the same, and what one more makes of them.
 -- Assumes nothing.
 use mathlib.Core.Path.{◌≡◌, refl, sym, ◌∙◌, ap, subst}
-use mathlib.Core.Bool.{Bool, true, false, not, cond}
+use mathlib.Core.Bool.{Bool, true, false, cond}
 use mathlib.Core.List.{List, [], ◌∷◌, ◌++◌}
-use Prim.Native.Nat.{ℕ, ◌+◌, ◌-◌, ◌<◌, ◌≤◌}
+use Prim.Native.Nat.{ℕ, zero, suc, ◌+◌, ◌-◌, ◌*◌, ◌<◌, ◌≤◌}
 use native.Mathlib.Decide.{ℕ_discrete}
 use native.Mathlib.Omega.{arith}
 use lib.IntN.{ℤ, pos, negsuc, ◌*ℤ◌}
-use lib.ListN.{length, get_or, drop, set, length-append, length-set, get_or-append}
-use lib.Seq.{ext_get_or, get_or-set_same, get_or-set_other, get_or-append_seam}
+use lib.ListN.{length, get_or, take, drop, set, length-append, length-set, length-take, length-drop, get_or-append}
+use lib.Seq.{ext_get_or, get_or-set_same, get_or-set_other, get_or-append_seam, get_or-take, get_or-drop}
 use Rattle.whole.specs.Integers.{eq_ℤ}
 use Rattle.whole.proofs.Difference.{zz, z2}
 use Rattle.rules.specs.Sum.{Sum, factor, negate, put}
 use Rattle.rules.specs.Rule.{Test, positive, Whether}
 use Rattle.rules.specs.Steps.{bound_of, once}
 use Rattle.rules.specs.Laws.{InTable}
-use Rattle.rules.specs.Calls.{signed}
+use Rattle.rules.specs.Calls.{signed, words}
 use Rattle.rules.proofs.Sizes.{before_sum}
 use Rattle.rules.proofs.Sums.{factor_put_other, factor_scale}
-use Rattle.tables.proofs.WordLaws.{natural_unique}
+use Rattle.std.specs.Bool.{Decides}
+use Rattle.std.proofs.Common.{⊎_elim}
+use Rattle.std.proofs.lemmas.Bool.{cases_lt, false≢true}
+use Rattle.std.proofs.lemmas.List.{get_or_past}
+use Rattle.tables.proofs.WordLaws.{same_words, natural_unique, words_between, words_length}
 use Rattle.tables.proofs.Inversion.{BodyAt}
 use Rattle.bodies.specs.Body.{BoundAt, BoundsAt}
 use Rattle.bodies.specs.Cursor.{LiteralAt}
-use Rattle.bodies.specs.Bounds.{Alike, OfLiteral, GivesBound}
-use Rattle.bodies.specs.declared.bound.Bound.{Bound}
+use Rattle.bodies.specs.Bounds.{Alike, GivesBound}
 use Rattle.bodies.proofs.LiteralWords.{sum_word}
 use Rattle.bodies.proofs.OnceLaws.{In, at_in, in_at, once_there, once_new}
 
@@ -77,33 +80,90 @@ module _ {bs : List ℤ} {x p q : ℕ} {u v : Sum} (b : BoundAt bs x p u) (c : B
 
 -- ---- the search among those that are kept
 
--- the words behind places p and q are the same, up to the n-th
-abbrev pub AlikeTo : List ℤ → ℕ → ℕ → ℕ → Type 0
-AlikeTo bs p q n = (i : ℕ) → 1 ≤ i → i < n → get_or bs (p + i) (pos 0) ≡ get_or bs (q + i) (pos 0)
+-- bytes with the same words are the same
+pub words_unique : (n : ℕ) (l m : List ℕ) → length l ≡ n * 4 → length m ≡ n * 4 → ((k : ℕ) → get_or l k 0 < 256)
+    → ((k : ℕ) → get_or m k 0 < 256) → words l ≡ words m → l ≡ m
+unfolding words
+words_unique zero [] [] e f h k i = refl
+words_unique zero [] (b ∷ m) e f h k i = absurd (omega (arith, f))
+words_unique zero (a ∷ l) m e f h k i = absurd (omega (arith, e))
+words_unique (suc n) (a ∷ b ∷ c ∷ d ∷ l) (a' ∷ b' ∷ c' ∷ d' ∷ m) e f h k i =
+    let first : signed (a + 256 * (b + 256 * (c + 256 * d))) ≡ signed (a' + 256 * (b' + 256 * (c' + 256 * d'))) = cc in
+    let rest : words l ≡ words m = cc in
+    let number = natural_unique _ _ (omega (arith, h 0, h 1, h 2, h 3)) (omega (arith, k 0, k 1, k 2, k 3)) first in
+    let same_a : a ≡ a' = omega (arith, number, h 0, k 0) in
+    let same_b : b ≡ b' = omega (arith, number, same_a, h 1, k 1) in
+    let same_c : c ≡ c' = omega (arith, number, same_a, same_b, h 2, k 2) in
+    let same_d : d ≡ d' = omega (arith, number, same_a, same_b, same_c) in
+    let same = words_unique n l m (omega (arith, e)) (omega (arith, f)) (λ j. h (suc (suc (suc (suc j)))))
+    (λ j. k (suc (suc (suc (suc j))))) rest in
+    cc
+words_unique (suc n) [] m e f h k i = absurd (omega (arith, e))
+words_unique (suc n) (a ∷ []) m e f h k i = absurd (omega (arith, e))
+words_unique (suc n) (a ∷ b ∷ []) m e f h k i = absurd (omega (arith, e))
+words_unique (suc n) (a ∷ b ∷ c ∷ []) m e f h k i = absurd (omega (arith, e))
+words_unique (suc n) (a ∷ b ∷ c ∷ d ∷ l) [] e f h k i = absurd (omega (arith, f))
+words_unique (suc n) (a ∷ b ∷ c ∷ d ∷ l) (a' ∷ []) e f h k i = absurd (omega (arith, f))
+words_unique (suc n) (a ∷ b ∷ c ∷ d ∷ l) (a' ∷ b' ∷ []) e f h k i = absurd (omega (arith, f))
+words_unique (suc n) (a ∷ b ∷ c ∷ d ∷ l) (a' ∷ b' ∷ c' ∷ []) e f h k i = absurd (omega (arith, f))
 
-module _ (bs : List ℤ) (p q n : ℕ) (u v : ℕ) (e : get_or bs (p + n) (pos 0) ≡ signed u)
-    (f : get_or bs (q + n) (pos 0) ≡ signed v) where
-  pub alike_more : AlikeTo bs p q n → u ≡ v → AlikeTo bs p q (n + 1)
-  alike_more all same i h k = by (ℕ_discrete i n)
+-- a byte of a part
+byte_of_part : (n m : ℕ) (l : List ℕ) → ((k : ℕ) → get_or l k 0 < 256) → (k : ℕ) → get_or (take n (drop m l)) k 0 < 256
+byte_of_part n m l bytes k =
+    ⊎_elim
+    (λ (less : k < n). rw (get_or-take n (drop m l) k 0 less, get_or-drop m l k 0) (bytes (m + k)))
+    (λ (most : n ≤ k). let past : length (take n (drop m l)) ≤ k = simp (length-take, length-drop) (omega arith) in
+    rw (get_or_past (take n (drop m l)) k 0 past) (let z : ◌<◌ 0 256 = omega arith in z))
+    (cases_lt k n)
+
+-- the bytes of the seven words behind the word at place p
+abbrev pub seven : List ℕ → ℕ → List ℕ
+seven l p = take ((p + 8) * 4 - (p + 1) * 4) (drop ((p + 1) * 4) l)
+
+module _ (l : List ℕ) (p q : ℕ) (here : p + 8 ≤ length (words l)) (there : q + 8 ≤ length (words l)) where
+  seven_words : (p : ℕ) → words (seven l p) ≡ take 7 (drop (p + 1) (words l))
+  seven_words p =
+      let e : p + 8 ≡ p + 1 + 7 = omega arith in
+      ap (λ (n : ℕ). words (take (n * 4 - (p + 1) * 4) (drop ((p + 1) * 4) l))) e ∙ words_between l (p + 1) 7
+
+  seven_word : (p j : ℕ) → j < 7 → get_or (words (seven l p)) j (pos 0) ≡ get_or (words l) (p + (1 + j)) (pos 0)
+  seven_word p j h =
+      let e : p + 1 + j ≡ p + (1 + j) = omega arith in
+      ap (λ (ws : List ℤ). get_or ws j (pos 0)) (seven_words p) ∙ get_or-take 7 (drop (p + 1) (words l)) j (pos 0) h
+      ∙ get_or-drop (p + 1) (words l) j (pos 0) ∙ ap (λ (m : ℕ). get_or (words l) m (pos 0)) e
+
+  pub seven_alike : seven l p ≡ seven l q → Alike (words l) p q
+  seven_alike e i h k =
+      let (j, is) : (j : ℕ) × (i ≡ 1 + j) = (i - 1, omega (arith, h)) in
+      let small : j < 7 = omega (arith, is, k) in
+      ap (λ (m : ℕ). get_or (words l) (p + m) (pos 0)) is ∙ sym (seven_word p j small)
+      ∙ ap (λ (bs : List ℕ). get_or (words bs) j (pos 0)) e
+      ∙ seven_word q j small ∙ sym (ap (λ (m : ℕ). get_or (words l) (q + m) (pos 0)) is)
+
+  seven_long : (p : ℕ) → p + 8 ≤ length (words l) → length (seven l p) ≡ 7 * 4
+  seven_long p h = simp (length-take, length-drop) (omega (arith, words_length l))
+
+  pub alike_seven : ((k : ℕ) → get_or l k 0 < 256) → Alike (words l) p q → seven l p ≡ seven l q
+  alike_seven bytes all =
+      words_unique 7 (seven l p) (seven l q) (seven_long p here) (seven_long q there) (small p) (small q)
+      (ext_get_or (pos 0) (words (seven l p)) (words (seven l q)) as_many each)
     where
-      by : Dec (i ≡ n) → get_or bs (p + i) (pos 0) ≡ get_or bs (q + i) (pos 0)
-      by (yes j) =
-          ap (λ (m : ℕ). get_or bs (p + m) (pos 0)) j ∙ e ∙ ap signed same ∙ sym f
-          ∙ sym (ap (λ (m : ℕ). get_or bs (q + m) (pos 0)) j)
-      by (no j) = all i h (omega (arith, k, j))
+      small : (p k : ℕ) → get_or (seven l p) k 0 < 256
+      small p k = byte_of_part ((p + 8) * 4 - (p + 1) * 4) ((p + 1) * 4) l bytes k
 
-  pub not_alike : u < 4294967296 → v < 4294967296 → ¬ (u ≡ v) → 1 ≤ n → n < 8 → ¬ Alike bs p q
-  not_alike h k other l m all = other (natural_unique u v h k (sym e ∙ all n l m ∙ f))
+      as_many : length (words (seven l p)) ≡ length (words (seven l q))
+      as_many = same_words (seven l p) (seven l q) (seven_long p here ∙ sym (seven_long q there))
 
-pub whether_not : (A : Type 0) (r : Bool) → Whether r A → Whether (not (not r)) A
-whether_not A true a = a
-whether_not A false f = f
+      each : (j : ℕ) → j < length (words (seven l p))
+          → get_or (words (seven l p)) j (pos 0) ≡ get_or (words (seven l q)) j (pos 0)
+      each j h =
+          let low : j < 7 = omega (arith, h, words_length (seven l p), seven_long p here) in
+          seven_word p j low ∙ all (1 + j) (omega arith) (omega (arith, low)) ∙ sym (seven_word q j low)
 
-pub other_constants : {bs : List ℤ} {a b : Bound} → OfLiteral bs a → OfLiteral bs b → ¬ (a.constant ≡ b.constant)
-    → ¬ Alike bs a.place b.place
-other_constants {bs} {a} {b} of_a of_b other =
-    not_alike bs a.place b.place 1 a.constant b.constant of_a.constant_is of_b.constant_is
-    of_a.fits of_b.fits other (omega arith) (omega arith)
+-- what a test says that decides the same
+pub decides_whether : (r : Bool) {P A : Type 0} → Decides r P → (P → A) → (A → P) → Whether r A
+decides_whether true d f g = f (d.0 refl)
+decides_whether false d f g = λ a. false≢true (d.1 (g a))
 
 module _ {bs : List ℤ} {x : ℕ} {places : List ℕ} {k p : ℕ} {us : List Sum} {u : Sum}
     (h : BoundsAt bs x places k us) (b : BoundAt bs x p u) where

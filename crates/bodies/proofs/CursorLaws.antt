@@ -8,14 +8,17 @@ use lib.IntN.{ℤ, pos}
 use lib.ListN.{length, get_or, drop}
 use Rattle.rules.specs.Sum.{Sum}
 use Rattle.rules.specs.Rule.{Test, positive, divisible, is_zero, Rule, Constant, Join, Not, Literal, Bind}
-use Rattle.rules.specs.Table.{Node, constant_node, join_node, not_node, literal_node, bind_node, body, nodes, bodies}
+use Rattle.rules.specs.Table.{Node, constant_node, join_node, not_node, literal_node, bind_node, body, nodes}
+use Rattle.rules.specs.Table.{bodies, most_words}
 use Rattle.rules.specs.Literals.{gather}
 use Rattle.rules.specs.Calls.{signed}
+use Rattle.rules.specs.Calls.{words as words_of}
 use Rattle.rules.proofs.Sizes.{words, total, before_sum, words_pos, weight_is}
 use Rattle.rules.proofs.Encoding.{Good, AllGood, good_nodes}
 use Rattle.tables.specs.Reads.{widths}
-use Rattle.bodies.specs.Body.{BodyOf, SomeBody}
-use Rattle.bodies.specs.Cursor.{literals_of, literals_in, across, Remaining, LiteralAt, Next, SomeRemaining}
+use Rattle.bodies.specs.Body.{BodyOf}
+use Rattle.bodies.specs.declared.cursor.Literals.{Literals}
+use Rattle.bodies.specs.Cursor.{literals_of, literals_in, across, Remaining, LiteralAt, Left, SomeLeft, Came}
 use Rattle.bodies.proofs.NodeLaws.{node_inside, node_behind, node_wide}
 
 -- ---- which nodes are literals
@@ -87,64 +90,6 @@ module _ {bs : List ℤ} {p end : ℕ} {ls : List (Test × Sum)} (f : Front bs p
   front_wide : (k w : ℕ) → get_or bs p (pos 0) ≡ signed k → w ≡ get_or widths k 0 → w ≡ words f.node
   front_wide k w first wide = wide ∙ node_wide bs p f.number f.node f.after f.begins k first f.good
 
--- ---- the steps of the search
-
-module _ (bs : List ℤ) (p end : ℕ) where
-  -- no node remains
-  pub next_none : (ls : List (Test × Sum)) → Remaining bs p end ls → end ≤ p → Next bs p end ls
-  unfolding Next
-  next_none ls r over =
-      let (e, none) = go r.nodes r.ends in
-      subst (Next bs p end) (sym (r.literals ∙ ap literals_in none)) (unfold literals_in in e)
-    where
-      go : (ds : List Node) → end ≡ p + total ds → (p ≡ end) × (ds ≡ [])
-      go [] e = unfold total in (omega arith, refl)
-      go (d ∷ ds) e = absurd (unfold total in omega (arith, words_pos d))
-
-  -- where some remain from one place, some do from another
-  pub some_still : {q : ℕ} → SomeRemaining bs q end
-      → ((ls : List (Test × Sum)) → Remaining bs q end ls → Remaining bs p end ls) → SomeRemaining bs p end
-  some_still some on = record {
-    literals = some.literals;
-    remaining = on some.literals some.remaining;
-    few = some.few;
-  }
-
-  module _ (more : p < end) where
-    pub next_inside : SomeRemaining bs p end → p < length bs
-    next_inside some =
-        let f = front bs p end some.literals some.remaining more in
-        omega (arith, front_inside f, words_pos f.node)
-
-    module _ (k w : ℕ) (first : get_or bs p (pos 0) ≡ signed k) (wide : w ≡ get_or widths k 0) where
-      pub next_some : SomeRemaining bs p end → 1 ≤ w
-      next_some some =
-          let f = front bs p end some.literals some.remaining more in
-          omega (arith, front_wide f k w first wide, words_pos f.node)
-
-      pub next_found : 7 < w → (ls : List (Test × Sum)) → Remaining bs p end ls → Next bs p end ls
-      unfolding Next literals_in Good words
-      next_found h ls r =
-          let f = front bs p end ls r more in
-          let (t, s, i) = wide_literal f.node (subst (λ (m : ℕ). 7 < m) (front_wide f k w first wide) h) in
-          subst (Next bs p end) (sym (f.literals ∙ ap (λ (d : Node). literals_in (d ∷ f.others)) i)) (record {
-            node = f.number;
-            stands = record {
-              after = f.after;
-              begins = f.begins ∙ ap (λ (d : Node). body f.number d ++ f.after) i;
-            };
-            formed = subst Good i f.good;
-            behind = subst (λ (d : Node). Remaining bs (p + words d) end (literals_in f.others)) i f.behind;
-          })
-
-      pub next_step : w ≤ 7 → (ls : List (Test × Sum)) → Remaining bs p end ls → Remaining bs (p + w) end ls
-      next_step h ls r =
-          let f = front bs p end ls r more in
-          let e = front_wide f k w first wide in
-          let none = narrow_none f.node f.others f.good (subst (λ (m : ℕ). m ≤ 7) e h) in
-          subst (Remaining bs (p + w) end) (sym (f.literals ∙ none))
-          (subst (λ (m : ℕ). Remaining bs (p + m) end (literals_in f.others)) (sym e) f.behind)
-
 -- ---- behind a literal
 
 module _ {bs : List ℤ} {p end : ℕ} {t : Test} {s : Sum} {ls : List (Test × Sum)} (l : LiteralAt bs p end t s ls) where
@@ -179,6 +124,87 @@ module _ {bs : List ℤ} {p end : ℕ} {t : Test} {s : Sum} {ls : List (Test × 
         subst (λ (m : ℕ). Remaining bs m end ls)
         (let e : p + (before_sum t + length s) ≡ p + w = omega (arith, literal_wide, l.formed.0) in e) l.behind
 
+-- ---- the iterator
+
+-- what is left of some words, said of its own
+pub own : {bs : List ℤ} {end : ℕ} {it : Literals} {ls : List (Test × Sum)} → Left bs end it ls → length bs ≤ most_words
+    → SomeLeft it
+own {bs} {end} {it} {ls} l few = record {
+  literals = ls;
+  left = record {
+    here = refl;
+    ends = refl;
+    remaining = subst (λ (e : ℕ). Remaining (words_of it.bodies.now) it.place e ls) (sym l.ends)
+        (subst (λ (ws : List ℤ). Remaining ws it.place end ls) (sym l.here) l.remaining);
+  };
+  few = omega (arith, ap length l.here, few);
+}
+
+module _ {bs : List ℤ} {end : ℕ} {it : Literals} {ls : List (Test × Sum)} (l : Left bs end it ls) where
+  -- at the end no literal is left
+  pub none_left : it.end ≤ it.place → ls ≡ []
+  none_left over = l.remaining.literals ∙ go l.remaining.nodes l.remaining.ends
+    where
+      go : (ds : List Node) → end ≡ it.place + total ds → literals_in ds ≡ []
+      go [] e = unfold literals_in in refl
+      go (d ∷ ds) e = absurd (unfold total in omega (arith, words_pos d, l.ends))
+
+  module _ (more : it.place < it.end) where
+    here : Front bs it.place end ls
+    here = front bs it.place end ls l.remaining (omega (arith, l.ends))
+
+    pub node_there : it.place < length bs
+    node_there = omega (arith, front_inside here, words_pos here.node)
+
+    -- the node at its place is read: its kind k, and the w words of its body
+    module _ (k w : ℕ) (read : get_or (words_of it.bodies.now) it.place (pos 0) ≡ signed k)
+        (wide : w ≡ get_or widths k 0) where
+      first : get_or bs it.place (pos 0) ≡ signed k
+      first = subst (λ (ws : List ℤ). get_or ws it.place (pos 0) ≡ signed k) l.here read
+
+      same_width : w ≡ words here.node
+      same_width = front_wide here k w first wide
+
+      pub some_words : (1 ≤ w) × (it.place + w ≤ length bs)
+      some_words = (omega (arith, same_width, words_pos here.node), omega (arith, same_width, front_inside here))
+
+      abbrev past : Literals
+      past = record { bodies = it.bodies; place = it.place + w; end = it.end }
+
+      -- a node that is no literal is passed
+      pub left_behind : w ≤ 7 → Left bs end past ls
+      left_behind narrow = record {
+        here = l.here;
+        ends = l.ends;
+        remaining = subst (Remaining bs (it.place + w) end)
+            (sym (here.literals ∙ narrow_none here.node here.others here.good (omega (arith, same_width, narrow))))
+            (subst (λ (m : ℕ). Remaining bs (it.place + m) end (literals_in here.others)) (sym same_width) here.behind);
+      }
+
+      -- a literal comes
+      pub literal_comes : 7 < w → Came bs end it.place past ls
+      unfolding literals_in Good words
+      literal_comes h =
+          let (t, s, i) = wide_literal here.node (subst (λ (m : ℕ). 7 < m) same_width h) in
+          let at : LiteralAt bs it.place end t s (literals_in here.others) = record {
+            node = here.number;
+            stands = record {
+              after = here.after;
+              begins = here.begins ∙ ap (λ (d : Node). body here.number d ++ here.after) i;
+            };
+            formed = subst Good i here.good;
+            behind = subst (λ (d : Node). Remaining bs (it.place + words d) end (literals_in here.others)) i
+                here.behind;
+          } in
+          record {
+            test = t;
+            sum = s;
+            others = literals_in here.others;
+            first = here.literals ∙ ap (λ (d : Node). literals_in (d ∷ here.others)) i;
+            at = at;
+            left = record { here = l.here; ends = l.ends; remaining = literal_behind at k w first wide };
+          }
+
 -- ---- the literals of a rule
 
 literals_nodes : (a : Rule) (ds : List Node) → literals_in (nodes a ++ ds) ≡ literals_of a ++ literals_in ds
@@ -206,9 +232,6 @@ all_remain {bs} {end} {n} a b = record {
   literals =
       sym (append-nil (literals_of a)) ∙ sym (literals_nodes a []) ∙ ap literals_in (append-nil (nodes a));
 }
-
-pub some_remain : {bs : List ℤ} {end : ℕ} → SomeBody bs end → SomeRemaining bs 0 end
-some_remain b = record { literals = _; remaining = all_remain b.rule b.body; few = b.few }
 
 module _ {A : Type 0} (f : Test → Sum → List A) where
   pub across_append : (ks ls : List (Test × Sum)) → across f (ks ++ ls) ≡ across f ks ++ across f ls

@@ -1,13 +1,14 @@
-pub mod NodeLaws
 pub mod BehindLaws
+pub mod NodeLaws
 pub mod ChosenLaws
 pub mod SpanLaws
 pub mod CursorLaws
-pub mod ScanLaws
+pub mod LiteralsLaws
 pub mod LiteralWords
 pub mod MultipleLaws
 pub mod OnceLaws
 pub mod BoundLaws
 pub mod BoundCount
-pub mod LowerLaws
+pub mod LiteralKinds
+pub mod GivenLaws
 pub mod KeptLaws

@@ -3,24 +3,23 @@
 use mathlib.Core.Path.{◌≡◌, refl, sym, ◌∙◌, ap, subst}
 use mathlib.Core.Bool.{Bool, not, cond}
 use mathlib.Core.List.{List, [], ◌∷◌, ◌++◌, append-nil, append_assoc}
-use Prim.Native.Nat.{ℕ, zero, suc, ◌+◌, ◌-◌, ◌/◌, ◌<◌, ◌≤◌}
+use Prim.Native.Nat.{ℕ, zero, suc, max, ◌+◌, ◌-◌, ◌/◌, ◌<◌, ◌≤◌}
 use native.Mathlib.Nat.{mul-le-mul_left}
 use native.Mathlib.Omega.{arith}
 use lib.Dec.{eqb-suc-zero}
 use lib.IntN.{ℤ, pos, negsuc, nat_abs}
-use lib.ListN.{get_or, drop}
+use lib.ListN.{get_or}
 use Rattle.whole.specs.Integers.{eq_ℤ}
 use Rattle.whole.specs.Divides.{Divides}
 use Rattle.whole.specs.Multiples.{LeastCommonMultiple, lcms}
 use Rattle.whole.specs.Bounded.{BoundedMultiple}
-use Rattle.whole.specs.declared.Multiple.{Multiple}
-use Rattle.whole.specs.declared.Multiple.TheVariants.{Least, OverLimit}
+use Rattle.std.proofs.Common.{Option, Some, None}
 use Rattle.whole.proofs.Lists.{All, all_append}
 use Rattle.whole.proofs.Divisibility.{one_divides, divides_self, divides_trans}
 use Rattle.whole.proofs.Multiples.{quotient_exact, quotient_pos, lcm_is, lcm_unique, lcms_pos}
 use Rattle.rules.specs.Sum.{Sum, factor}
 use Rattle.rules.specs.Rule.{Test, positive, divisible, is_zero, Rule, Constant, Join, Not, Literal, Bind}
-use Rattle.rules.specs.Steps.{size_of, common_factor, period}
+use Rattle.rules.specs.Steps.{size_of, divisor_of}
 use Rattle.rules.specs.Literals.{gather}
 use Rattle.rules.specs.Eliminate.{most_period}
 use Rattle.rules.specs.Laws.{Each, InTable, WellFormed}
@@ -28,14 +27,17 @@ use Rattle.rules.specs.Calls.{signed}
 use Rattle.rules.proofs.Sizes.{before_sum}
 use Rattle.rules.proofs.Encoding.{divisor_range}
 use Rattle.rules.proofs.CommonFactor.{sizes_positive}
-use Rattle.tables.proofs.WordLaws.{number_of, signed_low, signed_high}
-use Rattle.tables.proofs.Inversion.{BodyAt}
+use mathlib.Core.Logic.{◌⊎◌, inl, inr}
+use mathlib.Core.Bool.{true, false}
+use Rattle.tables.specs.Kinds.{test_kind}
+use Rattle.tables.specs.declared.kind.Kind.TheVariants as kind
+use Rattle.tables.proofs.WordLaws.{number_of}
 use Rattle.bodies.specs.Body.{Bounded}
 use Rattle.bodies.specs.Cursor.{literals_of, across, LiteralAt}
-use Rattle.bodies.specs.Multiples.{brought}
 use Rattle.bodies.proofs.LiteralWords.{divisor_word, sum_word}
 use Rattle.bodies.proofs.CursorLaws.{across_append, gather_across}
-use Rattle.bodies.proofs.ScanLaws.{Passed}
+use Rattle.bodies.specs.Multiples.{brought}
+use Rattle.bodies.proofs.LiteralsLaws.{Passed}
 
 -- ---- of two lists
 
@@ -70,6 +72,10 @@ at_most g n h d =
 
 -- ---- what literals bring
 
+-- literals that a table can hold bring positive numbers
+abbrev pub Brings : (Test → Sum → List ℕ) → Type 0
+Brings f = (t : Test) (s : Sum) → InTable t s → All (λ k. 0 < k) (f t s)
+
 -- literals that a table can hold, as those of a well-formed rule are
 abbrev pub Formed : List (Test × Sum) → Type 0
 Formed ls = All (λ l. InTable l.0 l.1) ls
@@ -88,166 +94,137 @@ formed_literals (Bind q v a) h = formed_literals a h.1
 abbrev size_list : ℤ → List ℕ
 size_list z = cond (not (eq_ℤ z (pos 0))) (nat_abs z ∷ []) []
 
-no_size : (z : ℤ) → nat_abs z ≡ 0 → size_list z ≡ []
-no_size (pos zero) e = refl
-no_size (pos (suc n)) e = absurd (omega (arith, e))
-no_size (negsuc n) e = absurd (omega (arith, e))
+sizes_are : (z : ℤ) → max (nat_abs z) 1 ≡ lcms (size_list z)
+unfolding lcms
+sizes_are (pos zero) = refl
+sizes_are (pos (suc n)) =
+    let one : max (suc n) 1 ≡ suc n = omega arith in
+    one ∙ lcms_one (suc n) ∙ sym (ap (λ (c : Bool). lcms (cond (not c) (suc n ∷ []) [])) (eqb-suc-zero n))
+sizes_are (negsuc n) = let one : max (suc n) 1 ≡ suc n = omega arith in one ∙ lcms_one (suc n)
 
-a_size : (z : ℤ) → ¬ (nat_abs z ≡ 0) → size_list z ≡ nat_abs z ∷ []
-a_size (pos zero) f = absurd (f refl)
-a_size (pos (suc n)) f = ap (λ (c : Bool). cond (not c) (suc n ∷ []) []) (eqb-suc-zero n)
-a_size (negsuc n) f = refl
+sizes_over : (x : ℕ) → Brings (size_of x)
+sizes_over x t s f = sizes_positive x t s
 
-brought_positive : (x : ℕ) (t : Test) (s : Sum) → InTable t s → All (λ k. 0 < k) (brought x t s)
-unfolding All brought size_of
-brought_positive zero positive s f = tt
-brought_positive zero (divisible b k) s f = ((divisor_range k f.2).0, tt)
-brought_positive zero is_zero s f = tt
-brought_positive (suc v) t s f = sizes_positive (suc v) t s
+divisors_over : Brings divisor_of
+unfolding All
+divisors_over positive s f = tt
+divisors_over (divisible b k) s f = ((divisor_range k f.2).0, tt)
+divisors_over is_zero s f = tt
 
-across_positive : (x : ℕ) (ls : List (Test × Sum)) → Formed ls → All (λ k. 0 < k) (across (brought x) ls)
+pub brought_over : (setting : Option ℕ) → Brings (brought setting)
+brought_over None = divisors_over
+brought_over (Some x) = sizes_over x
+
+across_positive : (f : Test → Sum → List ℕ) → Brings f → (ls : List (Test × Sum)) → Formed ls
+    → All (λ k. 0 < k) (across f ls)
 unfolding All across
-across_positive x [] f = tt
-across_positive x (l ∷ ls) f =
-    (all_append (λ k. 0 < k) (brought x l.0 l.1) (across (brought x) ls)).1
-    (brought_positive x l.0 l.1 f.0, across_positive x ls f.1)
+across_positive f brings [] g = tt
+across_positive f brings (l ∷ ls) g =
+    (all_append (λ k. 0 < k) (f l.0 l.1) (across f ls)).1
+    (brings l.0 l.1 g.0, across_positive f brings ls g.1)
 
 -- ---- what one literal brings, read from its body of w words
 
-module _ {bs : List ℤ} {p end : ℕ} {t : Test} {s : Sum} {ls : List (Test × Sum)} (l : LiteralAt bs p end t s ls)
-    (w : ℕ) (wide : w ≡ before_sum t + 7) where
-  pub brings_divisor : (x : ℕ) → x ≡ 0 → w ≡ 9 → (u : ℕ) → get_or bs (p + 1) (pos 0) ≡ signed u
-      → u ≡ lcms (brought x t s)
-  brings_divisor x none nine u e =
-      subst (λ (x : ℕ). u ≡ lcms (brought x t s)) (sym none) (by t wide l.stands)
-    where
-      by : (t : Test) → w ≡ before_sum t + 7 → BodyAt (drop p bs) l.node t s → u ≡ lcms (brought 0 t s)
-      by positive v b = absurd (unfold before_sum in omega (arith, v, nine))
-      by (divisible c k) v b = unfold brought in number_of u k (sym e ∙ divisor_word bs p c k b) ∙ lcms_one k
-      by is_zero v b = absurd (unfold before_sum in omega (arith, v, nine))
-
-  pub brings_nothing : (x : ℕ) → x ≡ 0 → ¬ (w ≡ 9) → 1 ≡ lcms (brought x t s)
-  brings_nothing x none other = subst (λ (x : ℕ). 1 ≡ lcms (brought x t s)) (sym none) (by t wide)
-    where
-      by : (t : Test) → w ≡ before_sum t + 7 → 1 ≡ lcms (brought 0 t s)
-      by positive v = unfold brought lcms in refl
-      by (divisible c k) v = absurd (other (unfold before_sum in v))
-      by is_zero v = unfold brought lcms in refl
-
-  pub factor_word : (x : ℕ) → x ≤ 6 → get_or bs (p + (w - 7) + x) (pos 0) ≡ factor x s
-  factor_word x h =
+module _ {bs : List ℤ} {p end : ℕ} {t : Test} {s : Sum} {ls : List (Test × Sum)} (l : LiteralAt bs p end t s ls) where
+  pub factor_word : (w : ℕ) → w ≡ before_sum t + 7 → (x : ℕ) → x ≤ 6 → get_or bs (p + (w - 7) + x) (pos 0) ≡ factor x s
+  factor_word w wide x h =
       let place : p + (w - 7) + x ≡ p + before_sum t + x = omega (arith, wide) in
       ap (λ (i : ℕ). get_or bs i (pos 0)) place ∙ sum_word bs p t l.stands x (omega (arith, l.formed.0))
 
-module _ (x n : ℕ) (t : Test) (s : Sum) (setting : ¬ (x ≡ 0)) (is : n ≡ nat_abs (factor x s)) where
-  pub brings_no_size : n ≡ 0 → 1 ≡ lcms (brought x t s)
-  brings_no_size none = by x setting is
-    where
-      by : (x : ℕ) → ¬ (x ≡ 0) → n ≡ nat_abs (factor x s) → 1 ≡ lcms (brought x t s)
-      by zero f i = absurd (f refl)
-      by (suc v) f i = unfold brought size_of lcms in
-          sym (ap lcms (no_size (factor (suc v) s) (sym i ∙ none)))
+pub brings_size : (x : ℕ) (t : Test) (s : Sum) → max (nat_abs (factor x s)) 1 ≡ lcms (size_of x t s)
+unfolding size_of
+brings_size x t s = sizes_are (factor x s)
 
-  pub brings_size : ¬ (n ≡ 0) → n ≡ lcms (brought x t s)
-  brings_size some = by x setting is
-    where
-      by : (x : ℕ) → ¬ (x ≡ 0) → n ≡ nat_abs (factor x s) → n ≡ lcms (brought x t s)
-      by zero f i = absurd (f refl)
-      by (suc v) f i = unfold brought size_of in
-          let z = factor (suc v) s in
-          i ∙ lcms_one (nat_abs z) ∙ sym (ap lcms (a_size z (λ e. some (i ∙ e))))
+pub brings_divisor : {bs : List ℤ} {p end : ℕ} (t : Test) {s : Sum} {ls : List (Test × Sum)} → LiteralAt bs p end t s ls
+    → (test_kind t ≡ kind.Divisible) ⊎ (test_kind t ≡ kind.Indivisible) → (u : ℕ) → get_or bs (p + 1) (pos 0) ≡ signed u
+    → u ≡ lcms (divisor_of t s)
+unfolding test_kind
+brings_divisor positive l (inl e) u word = cc
+brings_divisor positive l (inr e) u word = cc
+brings_divisor {bs} {p} (divisible b k) l e u word =
+    number_of u k (sym word ∙ divisor_word bs p b k l.stands) ∙ lcms_one k
+brings_divisor is_zero l (inl e) u word = cc
+brings_divisor is_zero l (inr e) u word = cc
 
-pub size_low : (u : ℕ) → u < 2147483648 → u ≡ nat_abs (signed u)
-size_low u h = sym (ap nat_abs (signed_low u h))
-
-pub size_high : (u : ℕ) → 2147483648 ≤ u → u < 4294967296 → 4294967296 - u ≡ nat_abs (signed u)
-size_high u h k =
-    let e : 4294967296 - u ≡ suc (4294967295 - u) = omega arith in
-    e ∙ sym (ap nat_abs (signed_high u h))
+pub brings_nothing : (t : Test) (s : Sum) → ¬ (test_kind t ≡ kind.Divisible) → ¬ (test_kind t ≡ kind.Indivisible)
+    → 1 ≡ lcms (divisor_of t s)
+unfolding test_kind lcms
+brings_nothing positive s f g = refl
+brings_nothing (divisible true k) s f g = absurd (f refl)
+brings_nothing (divisible false k) s f g = absurd (g refl)
+brings_nothing is_zero s f g = refl
 
 -- ---- the loop over the literals
 
 -- the multiple of what the literals ls bring
-abbrev pub multiple_of : ℕ → List (Test × Sum) → ℕ
-multiple_of x ls = lcms (across (brought x) ls)
+abbrev pub multiple_of : (Test → Sum → List ℕ) → List (Test × Sum) → ℕ
+multiple_of f ls = lcms (across f ls)
 
 -- m is that multiple
-abbrev pub IsMultiple : ℕ → ℕ → Passed
-IsMultiple x m ls = m ≡ multiple_of x ls
+abbrev pub IsMultiple : (Test → Sum → List ℕ) → ℕ → Passed
+IsMultiple f m ls = m ≡ multiple_of f ls
 
-pub multiple_none : (x : ℕ) → IsMultiple x 1 []
+-- and within the limit
+abbrev pub Held : (Test → Sum → List ℕ) → ℕ → Passed
+Held f m ls = (m ≤ most_period) × IsMultiple f m ls
+
+pub held_none : (f : Test → Sum → List ℕ) → Held f 1 []
 unfolding across lcms
-multiple_none x = refl
+held_none f = (omega arith, refl)
 
 -- past the limit, where they are formed
-abbrev pub Past : ℕ → Passed
-Past x ls = Formed ls → most_period < multiple_of x ls
+abbrev pub Past : (Test → Sum → List ℕ) → Passed
+Past f ls = Formed ls → most_period < multiple_of f ls
 
-pub small : (m n : ℕ) (r : Multiple) → BoundedMultiple m n most_period r → (k : ℕ) → r ≡ Least k → k ≤ most_period
-unfolding BoundedMultiple
-small m n r b k i = (subst (BoundedMultiple m n most_period) i b).1
-
-module _ (x : ℕ) (m n : ℕ) where
+module _ (f : Test → Sum → List ℕ) (m n : ℕ) where
   -- the multiple of m, which is that of the literals before, and of n, which this literal brings
-  with_next : (t : Test) (s : Sum) (ks : List (Test × Sum)) → IsMultiple x m ks → n ≡ lcms (brought x t s)
-      → LeastCommonMultiple m n (multiple_of x (ks ++ ((t, s) ∷ [])))
+  with_next : (t : Test) (s : Sum) (ks : List (Test × Sum)) → IsMultiple f m ks → n ≡ lcms (f t s)
+      → LeastCommonMultiple m n (multiple_of f (ks ++ ((t, s) ∷ [])))
   unfolding across
-  with_next t s ks e f =
-      let before : List ℕ = across (brought x) ks in
-      let both : ℕ = lcms (before ++ brought x t s) in
-      let all = across_append (brought x) ks ((t, s) ∷ [])
-      ∙ ap (λ (l : List ℕ). before ++ l) (append-nil (brought x t s)) in
+  with_next t s ks e i =
+      let before : List ℕ = across f ks in
+      let both : ℕ = lcms (before ++ f t s) in
+      let all = across_append f ks ((t, s) ∷ [])
+      ∙ ap (λ (l : List ℕ). before ++ l) (append-nil (f t s)) in
       subst (λ (l : List ℕ). LeastCommonMultiple m n (lcms l)) (sym all)
       (subst (λ (a : ℕ). LeastCommonMultiple a n both) (sym e)
-      (subst (λ (b : ℕ). LeastCommonMultiple (lcms before) b both) (sym f) (lcms_append before (brought x t s))))
+      (subst (λ (b : ℕ). LeastCommonMultiple (lcms before) b both) (sym i) (lcms_append before (f t s))))
 
-  module _ (r : Multiple) (b : BoundedMultiple m n most_period r) where
-    pub grown : (k : ℕ) → r ≡ Least k → (t : Test) (s : Sum) (ks : List (Test × Sum))
-        → IsMultiple x m ks → n ≡ lcms (brought x t s) → k ≡ multiple_of x (ks ++ ((t, s) ∷ []))
+  module _ (r : Option ℕ) (b : BoundedMultiple m n most_period r) where
+    pub held_more : (k : ℕ) → r ≡ Some k → (t : Test) (s : Sum) (ks : List (Test × Sum))
+        → Held f m ks → n ≡ lcms (f t s) → Held f k (ks ++ ((t, s) ∷ []))
     unfolding BoundedMultiple
-    grown k i t s ks e f =
-        lcm_unique (subst (BoundedMultiple m n most_period) i b).0 (with_next t s ks e f)
+    held_more k i t s ks h j =
+        let least = subst (BoundedMultiple m n most_period) i b in
+        (least.1, lcm_unique least.0 (with_next t s ks h.1 j))
 
     -- a multiple past the limit stays past it
-    pub past : r ≡ OverLimit → (t : Test) (s : Sum) (ls ks : List (Test × Sum))
-        → IsMultiple x m ks → n ≡ lcms (brought x t s)
-        → Past x (ks ++ ((t, s) ∷ ls))
+    pub past : Brings f → r ≡ None → (t : Test) (s : Sum) (ls ks : List (Test × Sum))
+        → Held f m ks → n ≡ lcms (f t s) → Past f (ks ++ ((t, s) ∷ ls))
     unfolding BoundedMultiple
-    past i t s ls ks e f formed =
+    past brings i t s ls ks h j formed =
         let here = ks ++ ((t, s) ∷ []) in
-        let over : most_period < multiple_of x here =
-        subst (BoundedMultiple m n most_period) i b (multiple_of x here) (with_next t s ks e f) in
+        let over : most_period < multiple_of f here =
+        subst (BoundedMultiple m n most_period) i b (multiple_of f here) (with_next t s ks h.1 j) in
         let apart : here ++ ls ≡ ks ++ ((t, s) ∷ ls) = append_assoc ks ((t, s) ∷ []) ls in
-        let all = sym (across_append (brought x) here ls) ∙ ap (across (brought x)) apart in
-        let divided : Divides (multiple_of x here) (pos (multiple_of x (ks ++ ((t, s) ∷ ls)))) =
-        subst (λ (l : List ℕ). Divides (multiple_of x here) (pos (lcms l))) all
-        (lcms_append (across (brought x) here) (across (brought x) ls)).left in
-        let some = lcms_pos (across (brought x) (ks ++ ((t, s) ∷ ls))) (across_positive x _ formed) in
-        omega (arith, over, at_most (multiple_of x here) (multiple_of x (ks ++ ((t, s) ∷ ls))) some divided)
+        let all = sym (across_append f here ls) ∙ ap (across f) apart in
+        let divided : Divides (multiple_of f here) (pos (multiple_of f (ks ++ ((t, s) ∷ ls)))) =
+        subst (λ (l : List ℕ). Divides (multiple_of f here) (pos (lcms l))) all
+        (lcms_append (across f here) (across f ls)).left in
+        let some = lcms_pos (across f (ks ++ ((t, s) ∷ ls))) (across_positive f brings _ formed) in
+        omega (arith, over, at_most (multiple_of f here) (multiple_of f (ks ++ ((t, s) ∷ ls))) some divided)
 
 -- what the loop answers is what is gathered
-module _ (x : ℕ) (a : Rule) where
-  pub answer_least : (m : ℕ) → m ≤ most_period → IsMultiple x m (literals_of a)
-      → Bounded (lcms (gather (brought x) a)) (Least m)
+module _ (f : Test → Sum → List ℕ) (a : Rule) where
+  pub answer_held : (m : ℕ) (r : Option ℕ) → r ≡ Some m → Held f m (literals_of a) → Bounded (lcms (gather f a)) r
   unfolding Bounded
-  answer_least m h e =
-      let same : m ≡ lcms (gather (brought x) a) = e ∙ sym (ap lcms (gather_across (brought x) a)) in
-      (same, subst (λ (k : ℕ). k ≤ most_period) same h)
+  answer_held m r i (h, e) =
+      let same : m ≡ lcms (gather f a) = e ∙ sym (ap lcms (gather_across f a)) in
+      subst (Bounded (lcms (gather f a))) (sym i) (same, subst (λ (k : ℕ). k ≤ most_period) same h)
 
-  pub answer_over : (r : Multiple) → r ≡ OverLimit → WellFormed a → Past x (literals_of a)
-      → Bounded (lcms (gather (brought x) a)) r
+  pub answer_past : (r : Option ℕ) → r ≡ None → WellFormed a → Past f (literals_of a)
+      → Bounded (lcms (gather f a)) r
   unfolding Bounded
-  answer_over r i w h =
-      subst (Bounded (lcms (gather (brought x) a))) (sym i)
-      (subst (λ (l : List ℕ). most_period < lcms l) (sym (gather_across (brought x) a)) (h (formed_literals a w)))
-
--- ---- D and P
-
-pub common_factor_is : (x : ℕ) (a : Rule) → 1 ≤ x → lcms (gather (brought x) a) ≡ common_factor x a
-unfolding common_factor brought
-common_factor_is zero a h = absurd (omega (arith, h))
-common_factor_is (suc v) a h = refl
-
-pub period_is : (a : Rule) → lcms (gather (brought 0) a) ≡ period a
-unfolding period brought
-period_is a = refl
+  answer_past r i w h =
+      subst (Bounded (lcms (gather f a))) (sym i)
+      (subst (λ (l : List ℕ). most_period < lcms l) (sym (gather_across f a)) (h (formed_literals a w)))

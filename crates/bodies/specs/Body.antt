@@ -1,8 +1,6 @@
 -- A rule's bodies at the start of some words, as the loops over its nodes ask for them, and what they answer.
 -- Assumes nothing.
-use Rattle.std.specs.Prelude.{◌≡◌, List, [], ℕ, ◌<◌, ◌≤◌, ℤ, pos, length, get_or, drop}
-use Rattle.whole.specs.declared.Multiple.{Multiple}
-use Rattle.whole.specs.declared.Multiple.TheVariants.{Least, OverLimit}
+use Rattle.std.specs.Prelude.{◌≡◌, List, [], ℕ, ◌<◌, ◌≤◌, ℤ, pos, length, get_or, drop, Option, Some, None}
 use Rattle.rules.specs.Sum.{Sum, factor, negate, put}
 use Rattle.rules.specs.Rule.{positive, Rule}
 use Rattle.rules.specs.Table.{most_words}
@@ -31,9 +29,9 @@ WhicheverRule bs end Q = (n : ℕ) (a : Rule) → BodyOf bs end n a → Q a
 
 -- ---- D and P, held to "4,096"
 
-unfoldable pub Bounded : ℕ → Multiple → Type 0
-Bounded n (Least m) = (m ≡ n) × (n ≤ most_period)
-Bounded n OverLimit = most_period < n
+unfoldable pub Bounded : ℕ → Option ℕ → Type 0
+Bounded n (Some m) = (m ≡ n) × (n ≤ most_period)
+Bounded n None = most_period < n
 
 -- ---- "A literal 0 < x+r gives the bound −r"
 

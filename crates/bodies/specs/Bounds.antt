@@ -1,12 +1,12 @@
 -- What keeping a bound asks for, and what the tests on the way answer.
 -- Assumes nothing.
-use Rattle.std.specs.Prelude.{◌≡◌, Bool, true, false, List, [], ◌∷◌, ◌++◌, ℕ, ◌+◌, ◌<◌, ◌≤◌, ℤ, pos, length, get_or, set}
+use Rattle.std.specs.Prelude.{◌≡◌, Bool, true, false, List, [], ◌++◌, ℕ, ◌+◌, ◌<◌, ◌≤◌, ℤ, pos, length, get_or}
 use Rattle.rules.specs.Sum.{Sum, factor}
 use Rattle.rules.specs.Rule.{Test, positive}
 use Rattle.rules.specs.Steps.{bound_of, once}
 use Rattle.rules.specs.Calls.{signed}
 use Rattle.bodies.specs.Body.{BoundsAt}
-use Rattle.bodies.specs.Cursor.{across, LiteralAt, Reached, SomeLiteral}
+use Rattle.bodies.specs.Cursor.{LiteralAt, SomeLiteral}
 use Rattle.bodies.specs.declared.bound.Bound.{Bound}
 
 -- ---- the literals that give a bound
@@ -15,18 +15,6 @@ use Rattle.bodies.specs.declared.bound.Bound.{Bound}
 unfoldable pub GivesBound : ℕ → Test → Sum → Bool → Type 0
 GivesBound x t s true = (t ≡ positive) × (factor x s ≡ pos 1)
 GivesBound x t s false = bound_of x t s ≡ []
-
--- none of some literals gives one; and the first of them does, where there is one
-abbrev pub NoneGives : ℕ → List (Test × Sum) → Type 0
-NoneGives x ls = across (bound_of x) ls ≡ []
-
-unfoldable pub FirstGives : ℕ → List (Test × Sum) → Type 0
-FirstGives x [] = Unit
-FirstGives x (l ∷ ls) = GivesBound x l.0 l.1 true
-
--- p is the place of the first of the literals ls that gives a bound, or the end where none does
-abbrev pub NextLower : List ℤ → ℕ → ℕ → ℕ → List (Test × Sum) → Type 0
-NextLower bs x p end ls = Reached bs p end (NoneGives x) (FirstGives x) ls
 
 -- ---- a bound
 
@@ -44,18 +32,17 @@ pub record OfLiteral (bs : List ℤ) (b : Bound) : Type 0 where
 abbrev pub none : Bound
 none = record { place = 0; constant = 0 }
 
--- r is the first place of b in a list, at or before k
-abbrev pub First : List ℤ → List Bound → ℕ → Bound → ℕ → Type 0
-First bs bounds k b r =
-    (r ≤ k) × Alike bs (get_or bounds r none).place b.place
+-- r is the first place of b in a list
+abbrev pub First : List ℤ → List Bound → Bound → ℕ → Type 0
+First bs bounds b r =
+    (r < length bounds) × Alike bs (get_or bounds r none).place b.place
     × ((j : ℕ) → j < r → ¬ Alike bs (get_or bounds j none).place b.place)
 
--- ---- the bounds that are kept
+-- some bound of a list is the same as b
+abbrev pub Known : List ℤ → List Bound → Bound → Type 0
+Known bs bounds b = (i : ℕ) × (i < length bounds) × Alike bs (get_or bounds i none).place b.place
 
--- the place p stands behind the first k, unless i is one of them
-abbrev pub Noted : List ℕ → ℕ → ℕ → ℕ → List ℕ → ℕ → Type 0
-Noted places p i k new r =
-    ((i < k) → (r ≡ k) × (new ≡ places)) × ((i ≡ k) → (r ≡ k + 1) × (new ≡ set places k p))
+-- ---- the bounds that are kept
 
 -- the first k give the bounds us, and so do their places
 pub record Kept (bs : List ℤ) (x : ℕ) (bounds : List Bound) (places : List ℕ) (k : ℕ) (us : List Sum) : Type 0 where

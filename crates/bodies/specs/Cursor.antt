@@ -1,14 +1,17 @@
--- The literals of a body, one after the other: which of them remain from a place on, and where the next one stands.
+-- The literals of a body, one after the other: which of them remain from a place on, and what the iterator over them
+-- gives.
 -- Assumes nothing.
-use Rattle.std.specs.Prelude.{◌≡◌, List, [], ◌∷◌, ◌++◌, ℕ, ◌+◌, ◌≤◌, ℤ, length, drop}
+use Rattle.std.specs.Prelude.{◌≡◌, List, [], ◌∷◌, ◌++◌, ℕ, ◌+◌, ◌≤◌, ℤ, length, drop, Option, MatchOption}
 use Rattle.rules.specs.Sum.{Sum}
 use Rattle.rules.specs.Rule.{Test, Rule}
 use Rattle.rules.specs.Table.{Node, constant_node, join_node, not_node, literal_node, bind_node, most_words, bodies}
 use Rattle.rules.specs.Literals.{gather}
 use Rattle.rules.specs.Laws.{InTable}
+use Rattle.rules.specs.Calls.{words}
 use Rattle.rules.proofs.Sizes.{before_sum, total}
 use Rattle.rules.proofs.Encoding.{AllGood}
 use Rattle.tables.specs.Standing.{BodyAt}
+use Rattle.bodies.specs.declared.cursor.Literals.{Literals}
 
 -- ---- literals
 
@@ -54,31 +57,42 @@ pub record LiteralAt (bs : List ℤ) (p end : ℕ) (t : Test) (s : Sum) (ls : Li
 abbrev pub WhicheverLiteral : List ℤ → ℕ → ℕ → (Test → Sum → List (Test × Sum) → Type 0) → Type 0
 WhicheverLiteral bs p end Q = (t : Test) (s : Sum) (ls : List (Test × Sum)) → LiteralAt bs p end t s ls → Q t s ls
 
--- p is the place of the first of the literals ls, or the end where there is none
-unfoldable pub Next : List ℤ → ℕ → ℕ → List (Test × Sum) → Type 0
-Next bs p end [] = p ≡ end
-Next bs p end (l ∷ ls) = LiteralAt bs p end l.0 l.1 ls
+-- of the body of these words, the iterator has the literals ls left
+pub record Left (bs : List ℤ) (end : ℕ) (it : Literals) (ls : List (Test × Sum)) : Type 0 where
+  pub here : words it.bodies.now ≡ bs
+  pub ends : it.end ≡ end
+  pub remaining : Remaining bs it.place end ls
 
--- p is the place of the first of the literals `left`: of the literals ls, Q holds of those before it, and F of the rest
-pub record Reached (bs : List ℤ) (p end : ℕ) (Q F : List (Test × Sum) → Type 0) (ls : List (Test × Sum)) : Type 0 where
+pub record SomeLeft (it : Literals) : Type 0 where
+  pub literals : List (Test × Sum)
+  pub left : Left (words it.bodies.now) it.end it literals
+  pub few : length (words it.bodies.now) ≤ most_words
+
+-- at place p stands the first of the literals ls, and the others are left
+pub record Came (bs : List ℤ) (end : ℕ) (p : ℕ) (it : Literals) (ls : List (Test × Sum)) : Type 0 where
+  pub test : Test
+  pub sum : Sum
+  pub others : List (Test × Sum)
+  pub first : ls ≡ (test, sum) ∷ others
+  pub at : LiteralAt bs p end test sum others
+  pub left : Left bs end it others
+
+-- a call gave the place of the first literal that was left, or `None` where none was
+abbrev pub GivesFirst : Literals → Option ℕ → Literals → Type 0
+GivesFirst before r after =
+    (bs : List ℤ) (end : ℕ) (ls : List (Test × Sum)) → Left bs end before ls
+    → MatchOption r (ls ≡ []) (λ p. Came bs end p after ls)
+
+-- of the literals ls those before the ones left are `passed`, of which Q holds
+pub record Partway (bs : List ℤ) (end : ℕ) (it : Literals) (Q : List (Test × Sum) → Type 0)
+    (ls : List (Test × Sum)) : Type 0 where
   pub passed : List (Test × Sum)
-  pub left : List (Test × Sum)
-  pub whole : ls ≡ passed ++ left
-  pub next : Next bs p end left
+  pub others : List (Test × Sum)
+  pub whole : ls ≡ passed ++ others
+  pub left : Left bs end it others
   pub so_far : Q passed
-  pub ahead : F left
 
 -- ---- what a function over the literals asks for
-
-pub record SomeRemaining (bs : List ℤ) (p end : ℕ) : Type 0 where
-  pub literals : List (Test × Sum)
-  pub remaining : Remaining bs p end literals
-  pub few : length bs ≤ most_words
-
-pub record SomeNext (bs : List ℤ) (p end : ℕ) : Type 0 where
-  pub literals : List (Test × Sum)
-  pub next : Next bs p end literals
-  pub few : length bs ≤ most_words
 
 pub record SomeLiteral (bs : List ℤ) (p end : ℕ) : Type 0 where
   pub test : Test

@@ -1,8 +1,8 @@
-// A lower bound, and a lent slice of them: read, written and searched.
-ghost use Rattle.std.specs.Prelude.{◌≡◌, not, ℕ, ◌+◌, ◌<◌, ◌≤◌, length, get_or, set};
+// A lower bound: the literal that gives it, and when two are the same.
+ghost use Rattle.std.specs.Prelude.{◌≡◌, ℕ, ◌+◌, ◌<◌, ◌≤◌, length, get_or, MatchOption};
 ghost use Rattle.rules.specs.Rule.{Whether};
 ghost use Rattle.rules.specs.Calls.{words as words_of};
-ghost use Rattle.bodies.specs.Bounds.{Alike, none, OfLiteral, First};
+ghost use Rattle.bodies.specs.Bounds.{Alike, none, OfLiteral, Known, First};
 
 use tables::words;
 
@@ -15,68 +15,54 @@ pub struct Bound {
 }
 
 // Whether the same seven words stand behind the words at two places.
+#[tactic(auto, using(tables::proofs::WordLaws::words_length))]
 fn alike(bodies: &[u8], p: usize, q: usize) -> bool
     requires { (p + 8 ≤ length (words_of bodies.now)) × (q + 8 ≤ length (words_of bodies.now))
         × (length (words_of bodies.now) ≤ 16384) }
     ensures { Whether result (Alike (words_of bodies.now) p q) }
 {
-    let mut i: usize = 1;
-    while i < 8 {
-        if words::natural(bodies, p + i) != words::natural(bodies, q + i) {
-            return false;
+    bodies[(p + 1) * 4..(p + 8) * 4] == bodies[(q + 1) * 4..(q + 8) * 4]
+}
+
+impl Bound {
+    // The one that the literal at this place gives.
+    pub fn of(bodies: &[u8], place: usize) -> Bound
+        requires { (place + 8 ≤ length (words_of bodies.now)) × (length (words_of bodies.now) ≤ 16384) }
+        ensures { (result.place ≡ place) × OfLiteral (words_of bodies.now) result }
+    {
+        Bound {
+            place: place as u32,
+            constant: words::natural(bodies, place + 1) as u32,
         }
-        i += 1;
     }
-    true
-}
 
-// Whether two bounds differ.
-fn differ(bodies: &[u8], a: Bound, b: Bound) -> bool
-    requires { OfLiteral (words_of bodies.now) a × OfLiteral (words_of bodies.now) b
-        × (length (words_of bodies.now) ≤ 16384) }
-    ensures { Whether (not result) (Alike (words_of bodies.now) a.place b.place) }
-{
-    if a.constant != b.constant {
-        return true;
+    // Whether it is the same as another.
+    fn same(self, bodies: &[u8], other: Bound) -> bool
+        requires { OfLiteral (words_of bodies.now) self × OfLiteral (words_of bodies.now) other
+            × (length (words_of bodies.now) ≤ 16384) }
+        ensures { Whether result (Alike (words_of bodies.now) self.place other.place) }
+    {
+        self.constant == other.constant && alike(bodies, self.place as usize, other.place as usize)
     }
-    !alike(bodies, a.place as usize, b.place as usize)
-}
 
-// The bound that the literal at this place gives.
-pub fn of_literal(bodies: &[u8], place: usize) -> Bound
-    requires { (place + 8 ≤ length (words_of bodies.now)) × (length (words_of bodies.now) ≤ 16384) }
-    ensures { (result.place ≡ place) × OfLiteral (words_of bodies.now) result }
-{
-    Bound {
-        place: place as u32,
-        constant: words::natural(bodies, place + 1) as u32,
+    // The place of the first of these that is the same, if one is.
+    pub fn first(self, bodies: &[u8], bounds: &[Bound]) -> Option<usize>
+        requires { OfLiteral (words_of bodies.now) self
+            × ((i : ℕ) → i < length bounds.now → OfLiteral (words_of bodies.now) (get_or bounds.now i none))
+            × (length (words_of bodies.now) ≤ 16384) }
+        ensures { MatchOption result (¬ (Known (words_of bodies.now) bounds.now self))
+            (First (words_of bodies.now) bounds.now self) }
+    {
+        bounds.iter().position(|b| b.same(bodies, self))
     }
-}
 
-pub fn at(bounds: &[Bound], i: usize) -> Bound
-    requires { i < length bounds.now }
-    ensures { result ≡ get_or bounds.now i none }
-{
-    bounds[i]
-}
-
-pub fn put(bounds: &mut [Bound], i: usize, b: Bound)
-    requires { i < length bounds.old }
-    ensures { bounds.new ≡ set bounds.old i b }
-{
-    bounds[i] = b;
-}
-
-// The first of the bounds that is the same as b, which stands behind the first k: so the search needs no other end.
-pub fn first(bodies: &[u8], bounds: &[Bound], k: usize, b: Bound) -> usize
-    requires { (k < length bounds.now) × (get_or bounds.now k none ≡ b)
-        × ((i : ℕ) → i ≤ k → OfLiteral (words_of bodies.now) (get_or bounds.now i none))
-        × (length (words_of bodies.now) ≤ 16384) }
-    ensures { First (words_of bodies.now) bounds.now k b result }
-{
-    let mut i: usize = 0;
-    while differ(bodies, at(bounds, i), b) {
-        i += 1;
+    // Whether it is one of these.
+    pub fn is_among(self, bodies: &[u8], bounds: &[Bound]) -> bool
+        requires { OfLiteral (words_of bodies.now) self
+            × ((i : ℕ) → i < length bounds.now → OfLiteral (words_of bodies.now) (get_or bounds.now i none))
+            × (length (words_of bodies.now) ≤ 16384) }
+        ensures { Whether result (Known (words_of bodies.now) bounds.now self) }
+    {
+        self.first(bodies, bounds).is_some()
     }
-    i
 }

@@ -1,45 +1,55 @@
 // The literals of a body, one after the other.
-ghost use Rattle.std.specs.Prelude.{List, ◌<◌, ◌≤◌};
-ghost use Rattle.rules.specs.Sum.{Sum};
-ghost use Rattle.rules.specs.Rule.{Test};
+ghost use Rattle.std.specs.Prelude.{◌-◌};
+ghost use Rattle.std.specs.Iterator.{at_most};
 ghost use Rattle.rules.specs.Calls.{words as words_of};
 ghost use Rattle.bodies.specs.Body.{SomeBody, WhicheverRule};
-ghost use Rattle.bodies.specs.Cursor.{literals_of, Remaining, WhicheverLiteral, Next, SomeRemaining, SomeLiteral};
+ghost use Rattle.bodies.specs.Cursor.{literals_of, Left, SomeLeft, GivesFirst};
 
 use tables::{reading, words};
 
-// The place of the first literal at or behind place `from`, or the end. A literal alone has more than seven words.
-pub fn next_literal(bodies: &[u8], from: usize, end: usize) -> usize
-    requires { SomeRemaining (words_of bodies.now) from end }
-    ensures { (from ≤ result) × ((ls : List (Test × Sum)) → Remaining (words_of bodies.now) from end ls
-        → Next (words_of bodies.now) result end ls) }
-{
-    let mut place = from;
-    while place < end {
-        let width = reading::width(words::natural(bodies, place));
-        if 7 < width {
-            return place;
+// An iterator over the places where they stand.
+#[derive(Drop)]
+pub struct Literals<'a> {
+    bodies: &'a [u8],
+    place: usize,
+    end: usize,
+}
+
+impl<'a> Literals<'a> {
+    // Those of the body that ends at word `end`. The slice goes on behind it, since a body is a part that starts in the
+    // middle of a table: what is told of places in the body is told of that part, in which the steps go on.
+    pub fn of(bodies: &'a [u8], end: usize) -> Literals<'a>
+        requires { SomeBody (words_of bodies.now) end }
+        ensures { SomeLeft result × WhicheverRule (words_of bodies.now) end
+            (λ a. Left (words_of bodies.now) end result (literals_of a)) }
+    {
+        Literals {
+            bodies,
+            place: 0,
+            end,
         }
-        place += width;
     }
-    place
 }
 
-// The first literal of a body.
-pub fn first(bodies: &[u8], end: usize) -> usize
-    requires { SomeBody (words_of bodies.now) end }
-    ensures { WhicheverRule (words_of bodies.now) end
-        (λ a. Next (words_of bodies.now) result end (literals_of a)) }
-{
-    next_literal(bodies, 0, end)
-}
+impl<'a> Iterator for Literals<'a> {
+    type Item = usize;
 
-// The one that follows the literal at this place.
-pub fn following(bodies: &[u8], place: usize, end: usize) -> usize
-    requires { SomeLiteral (words_of bodies.now) place end }
-    ensures { (place < result) × WhicheverLiteral (words_of bodies.now) place end
-        (λ t s ls. Next (words_of bodies.now) result end ls) }
-{
-    let width = reading::width(words::natural(bodies, place));
-    next_literal(bodies, place + width, end)
+    ghost can_next = { SomeLeft };
+
+    ghost next_gives = { GivesFirst };
+
+    ghost remaining = { λ it. at_most (it.end - it.place) };
+
+    // A literal alone has more than seven words. The loop counts no index: each node says how many words it has.
+    fn next(&mut self) -> Option<usize> {
+        while self.place < self.end {
+            let place = self.place;
+            let width = reading::width(words::natural(self.bodies, place));
+            self.place += width;
+            if 7 < width {
+                return Some(place);
+            }
+        }
+        None
+    }
 }

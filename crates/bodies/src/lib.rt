@@ -4,6 +4,5 @@
 pub mod bound;
 pub mod bounds;
 pub mod cursor;
-pub mod lower;
 pub mod multiples;
 pub mod span;

@@ -1,80 +1,83 @@
 // D and P: least common multiples over the literals of a body, as far as they are within 4,096.
-ghost use Rattle.std.specs.Prelude.{◌≡◌, ℕ, ◌<◌, ◌≤◌, nat_abs};
+ghost use Rattle.std.specs.Prelude.{◌≡◌, ℕ, ◌≤◌, IfSome};
 ghost use Rattle.whole.specs.Multiples.{lcms};
 ghost use Rattle.rules.specs.Literals.{gather};
-ghost use Rattle.rules.specs.Steps.{common_factor as common_factor_of, period as period_of};
-ghost use Rattle.rules.specs.Calls.{signed, words as words_of};
+ghost use Rattle.rules.specs.Steps.{size_of, divisor_of, common_factor as common_factor_of, period as period_of};
+ghost use Rattle.rules.specs.Calls.{words as words_of};
 ghost use Rattle.bodies.specs.Body.{SomeBody, WhicheverRule, Bounded};
 ghost use Rattle.bodies.specs.Cursor.{WhicheverLiteral, SomeLiteral};
 ghost use Rattle.bodies.specs.Multiples.{brought};
 
-use crate::cursor;
-use tables::{reading, words};
-use whole::Multiple;
+use crate::cursor::Literals;
+use tables::kind::Kind;
+use tables::words;
 
-// The size of the number with these bits.
-fn size(u: usize) -> usize
-    requires { u < 4294967296 }
-    ensures { (result ≡ nat_abs (signed u)) × (result < 4294967296) }
-{
-    if u < 2147483648 {
-        return u;
-    }
-    4294967296 - u
-}
+// "Over the limit": Steps.most_period.
+const MOST: u32 = 4096;
 
-// What the literal at this place brings to the multiple: the size of its factor of setting x, or with 0 its divisor; 1
-// where it has none. Its sum is the last seven words of its body.
-fn part(bodies: &[u8], place: usize, x: usize) -> u32
+// The size of the factor of setting x in the literal at this place, 1 where it is zero. Its sum is the last seven words
+// of its body.
+fn size(bodies: &[u8], place: usize, x: usize) -> u32
     requires { ((end : ℕ) × SomeLiteral (words_of bodies.now) place end) × (x ≤ 6) }
     ensures { (end : ℕ)
-        → WhicheverLiteral (words_of bodies.now) place end (λ t s ls. result ≡ lcms (brought x t s)) }
+        → WhicheverLiteral (words_of bodies.now) place end (λ t s ls. result ≡ lcms (size_of x t s)) }
 {
-    let width = reading::width(words::natural(bodies, place));
-    if x == 0 {
-        if width == 9 {
-            return words::natural(bodies, place + 1) as u32;
-        }
-        return 1;
-    }
-    let n = size(words::natural(bodies, place + (width - 7) + x));
-    if n == 0 {
-        return 1;
-    }
-    n as u32
+    let width = Kind::at(bodies, place).width();
+    words::get(bodies, place + (width - 7) + x)
+        .unsigned_abs()
+        .max(1)
 }
 
-// The least common multiple of what the literals bring.
-fn multiple(bodies: &[u8], end: usize, x: usize) -> Multiple
-    requires { SomeBody (words_of bodies.now) end × (x ≤ 6) }
+// Its divisor, 1 where it has none.
+fn divisor(bodies: &[u8], place: usize) -> u32
+    requires { (end : ℕ) × SomeLiteral (words_of bodies.now) place end }
+    ensures { (end : ℕ)
+        → WhicheverLiteral (words_of bodies.now) place end (λ t s ls. result ≡ lcms (divisor_of t s)) }
+{
+    match Kind::at(bodies, place) {
+        Kind::Divisible | Kind::Indivisible => words::natural(bodies, place + 1) as u32,
+        _ => 1,
+    }
+}
+
+// What it brings to the multiple: for a setting the size of its factor, for none its divisor.
+fn part(bodies: &[u8], place: usize, setting: Option<usize>) -> u32
+    requires { ((end : ℕ) × SomeLiteral (words_of bodies.now) place end) × IfSome setting (λ x. x ≤ 6) }
+    ensures { (end : ℕ)
+        → WhicheverLiteral (words_of bodies.now) place end (λ t s ls. result ≡ lcms (brought setting t s)) }
+{
+    match setting {
+        Some(x) => size(bodies, place, x),
+        None => divisor(bodies, place),
+    }
+}
+
+// The least common multiple of what the literals bring. A try_fold was tried: what a call in its closure ensures can be
+// cited only under names that may change, so its proof did not close.
+fn multiple(bodies: &[u8], end: usize, setting: Option<usize>) -> Option<u32>
+    requires { SomeBody (words_of bodies.now) end × IfSome setting (λ x. x ≤ 6) }
     ensures { WhicheverRule (words_of bodies.now) end
-        (λ a. Bounded (lcms (gather (brought x) a)) result) }
+        (λ a. Bounded (lcms (gather (brought setting) a)) result) }
 {
     let mut m: u32 = 1;
-    let mut place = cursor::first(bodies, end);
-    while place < end {
-        let more = whole::lcm(m, part(bodies, place, x), 4096);
-        let Multiple::Least(least) = more else {
-            return more;
-        };
-        m = least;
-        place = cursor::following(bodies, place, end);
+    for place in Literals::of(bodies, end) {
+        m = whole::lcm(m, part(bodies, place, setting), MOST)?;
     }
-    Multiple::Least(m)
+    Some(m)
 }
 
 // "D is the least common multiple of the sizes of all nonzero x factors, 1 if none."
-pub fn common_factor(bodies: &[u8], end: usize, x: usize) -> Multiple
+pub fn common_factor(bodies: &[u8], end: usize, x: usize) -> Option<u32>
     requires { SomeBody (words_of bodies.now) end × (1 ≤ x) × (x ≤ 6) }
     ensures { WhicheverRule (words_of bodies.now) end (λ a. Bounded (common_factor_of x a) result) }
 {
-    multiple(bodies, end, x)
+    multiple(bodies, end, Some(x))
 }
 
 // "P is the least common multiple of the divisors of all divisibility literals in the body, 1 if none."
-pub fn period(bodies: &[u8], end: usize) -> Multiple
+pub fn period(bodies: &[u8], end: usize) -> Option<u32>
     requires { SomeBody (words_of bodies.now) end }
     ensures { WhicheverRule (words_of bodies.now) end (λ a. Bounded (period_of a) result) }
 {
-    multiple(bodies, end, 0)
+    multiple(bodies, end, None)
 }

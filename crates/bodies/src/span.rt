@@ -1,49 +1,49 @@
 // How many nodes and words a rule has that stands in a table.
-ghost use Rattle.std.specs.Prelude.{◌≡◌, ◌≤◌, pos, get_or};
+ghost use Rattle.std.specs.Prelude.{◌≡◌, MatchOption};
 ghost use Rattle.rules.specs.Rule.{Rule};
 ghost use Rattle.rules.specs.Table.{count};
 ghost use Rattle.rules.specs.Laws.{WellFormed};
-ghost use Rattle.rules.specs.Calls.{signed, words as words_of};
+ghost use Rattle.rules.specs.Calls.{words as words_of};
 ghost use Rattle.rules.proofs.Sizes.{weight};
-ghost use Rattle.tables.specs.Reads.{arities};
+ghost use Rattle.tables.specs.Parts.{RuleIn, SomeRuleIn};
 ghost use Rattle.tables.specs.Standing.{Stands, Standing, Few};
-ghost use Rattle.bodies.specs.Span.{EndsWith};
+ghost use Rattle.bodies.specs.Span.{Leaf, EndsWith};
 
-use tables::{check, reading, sides, words};
+pub use tables::extent::Extent;
+use tables::kind::Kind;
+use tables::part::Part;
 
-#[derive(Clone, Copy)]
-pub struct Extent {
-    pub nodes: usize,
-    pub words: usize,
+// The part of a rule's last child: the right one of an and or or, else the only one, where it has one.
+#[tactic(auto, using(crate::proofs::SpanLaws::by_kind))]
+fn last_child(part: Part<'_>) -> Option<Part<'_>>
+    requires { SomeRuleIn part }
+    ensures { (a : Rule) → RuleIn part.entry a → MatchOption result (Leaf a) (EndsWith part.entry a) }
+{
+    let kind = part.kind();
+    match kind {
+        Kind::And | Kind::Or => Some(part.right()),
+        Kind::Not | Kind::ForSome | Kind::ForAll => Some(part.behind(1, kind.width())),
+        _ => None,
+    }
 }
 
-// The nodes and words of a rule of this kind that stand before its last child: the right one of an and or or, else the
-// only one.
-fn before_last(entries: &[u8], bodies: &[u8], node: usize, place: usize, kind: usize) -> Extent
-    requires { Standing (words_of entries.now) (words_of bodies.now) node place
-        × Few (words_of entries.now) (words_of bodies.now) node place
-        × (get_or (words_of bodies.now) 0 (pos 0) ≡ signed kind)
-        × (¬ (get_or arities kind 0 ≡ 0)) }
-    ensures { (a : Rule)
-        → Stands (words_of entries.now) (words_of bodies.now) node place a
-        → (1 ≤ result.nodes)
-        × EndsWith (words_of entries.now) (words_of bodies.now) node place a
-        result.nodes result.words }
+// A rule ends where its last child does.
+pub fn extent(part: Part<'_>) -> Extent
+    requires { SomeRuleIn part }
+    ensures { (a : Rule) → RuleIn part.entry a → (result.nodes ≡ count a) × (result.words ≡ weight a) }
 {
-    if check::children(kind) == 2 {
-        let side = sides::right(entries, bodies, node, place);
-        return Extent {
-            nodes: side.node - node,
-            words: side.place - place,
-        };
+    let mut last = part;
+    while let Some(child) = last_child(last) {
+        last = child;
     }
     Extent {
-        nodes: 1,
-        words: reading::width(kind),
+        nodes: last.node + 1 - part.node,
+        words: last.place + last.kind().width() - part.place,
     }
 }
 
-// A rule ends where its last child does: behind i nodes and w words stands one of this kind with which the whole ends.
+// That of the rule whose entries and bodies these are, from its root on, with the root's number and place: for a caller
+// that has no part of a table.
 pub fn span(entries: &[u8], bodies: &[u8], node: usize, place: usize) -> Extent
     requires { Standing (words_of entries.now) (words_of bodies.now) node place
         × Few (words_of entries.now) (words_of bodies.now) node place }
@@ -51,23 +51,10 @@ pub fn span(entries: &[u8], bodies: &[u8], node: usize, place: usize) -> Extent
         → Stands (words_of entries.now) (words_of bodies.now) node place a → WellFormed a
         → (result.nodes ≡ count a) × (result.words ≡ weight a) }
 {
-    let mut i: usize = 0;
-    let mut w: usize = 0;
-    let mut kind = words::natural(bodies, 0);
-    while 0 < check::children(kind) {
-        let before = before_last(
-            &entries[i * 4..],
-            &bodies[w * 4..],
-            node + i,
-            place + w,
-            kind,
-        );
-        i += before.nodes;
-        w += before.words;
-        kind = words::natural(bodies, w);
-    }
-    Extent {
-        nodes: i + 1,
-        words: w + reading::width(kind),
-    }
+    extent(Part {
+        entries,
+        bodies,
+        node,
+        place,
+    })
 }

@@ -108,44 +108,48 @@ module _ {es bs : List ℤ} {n p x j : ℕ} (upto : j ≤ most_period) where
         subst (Says trues falses k) (full_same x (same_sum bound at u is setting) (j + k) a)
         (says a k (full_judging there) inside)
 
--- what the judging of bound i asks for
-pub bound_asks : {es bs : List ℤ} {n p x j : ℕ} {places : List ℕ} {k i q : ℕ} → SomeBodyBounds es bs n p x places k
-    → i < k → q ≡ get_or places i 0 → j ≤ most_period
-    → SomeRuleThere es bs n p × SomeBound bs x q × (j ≤ most_period)
-bound_asks {bs = bs} {x = x} {i = i} some inside is upto =
-    let body = some.body in
-    let bound = get_or (bounds x some.rule) i [] in (
-      record { rule = some.rule; there = body.there },
+-- what is known of bound i, whose literal is at place q
+module _ {es bs : List ℤ} {n p x : ℕ} {places : List ℕ} {i q : ℕ} (some : SomeBodyBounds es bs n p x places)
+    (inside : i < length places) (is : q ≡ get_or places i 0) where
+  pub bound_some : SomeBound bs x q
+  bound_some =
+      let bound = get_or (bounds x some.rule) i [] in
       record {
         bound = bound;
-        at = subst (λ (r : ℕ). BoundAt bs x r bound) (sym is) (body.bounds_at.each i inside);
-        few = omega (arith, body.there.few.few_words);
-        setting = body.setting;
-      },
-      upto,
-    )
+        at = subst (λ (r : ℕ). BoundAt bs x r bound) (sym is) (some.body.bounds_at.each i inside);
+        few = omega (arith, some.body.there.few.few_words);
+        setting = some.body.setting;
+      }
+
+  -- what its judging asks for, whose sum is u
+  pub bound_asks : {j : ℕ} → j ≤ most_period → (u : Sum)
+      → ((b : Sum) → BoundAt bs x q b → u ≡ add b (number (pos 0))) → SomeJudging es bs n p x u j
+  bound_asks upto u sum =
+      let known = bound_some in
+      some_full_judging upto known.setting known.bound known.at u (sum known.bound known.at)
+      (record { rule = some.rule; there = some.body.there })
 
 -- ---- a mask for each bound: those before bound i are there
 
-abbrev pub FalseBefore : (es bs : List ℤ) (n p x j : ℕ) (places : List ℕ) (k : ℕ) (masks : List ℕ) (i : ℕ) → Type 0
-FalseBefore es bs n p x j places k masks i =
-    (a : Rule) → BodyBounds es bs n p x places k a → FalseAtBounds masks x j i a
+abbrev pub FalseBefore : (es bs : List ℤ) (n p x j : ℕ) (places : List ℕ) (masks : List ℕ) (i : ℕ) → Type 0
+FalseBefore es bs n p x j places masks i =
+    (a : Rule) → BodyBounds es bs n p x places a → FalseAtBounds masks x j i a
 
-module _ {es bs : List ℤ} {n p x : ℕ} (j : ℕ) {places : List ℕ} {k : ℕ} where
-  pub no_mask_yet : (masks : List ℕ) → FalseBefore es bs n p x j places k masks 0
+module _ {es bs : List ℤ} {n p x : ℕ} (j : ℕ) {places : List ℕ} where
+  pub no_mask_yet : (masks : List ℕ) → FalseBefore es bs n p x j places masks 0
   no_mask_yet masks a body i before = absurd (omega (arith, before))
 
-  pub every_mask : (masks : List ℕ) (i : ℕ) → k ≤ i → FalseBefore es bs n p x j places k masks i
-      → FalseBefore es bs n p x j places k masks k
+  pub every_mask : (masks : List ℕ) (i : ℕ) → length places ≤ i → FalseBefore es bs n p x j places masks i
+      → FalseBefore es bs n p x j places masks (length places)
   every_mask masks i all done a body m inside = done a body m (omega (arith, all, inside))
 
   -- the mask of the next bound
   pub one_mask_more : (masks after : List ℕ) {i q : ℕ} (trues falses : ℕ) → after ≡ set masks i falses
-      → i < k → k ≤ length masks → q ≡ get_or places i 0
+      → i < length places → length places ≤ length masks → q ≡ get_or places i 0
       → ((a : Rule) (bound : Sum) → RuleAt es bs n p a → BoundAt bs x q bound
       → Judges trues falses j (full_at x a bound))
-      → FalseBefore es bs n p x j places k masks i
-      → FalseBefore es bs n p x j places k after (i + 1)
+      → FalseBefore es bs n p x j places masks i
+      → FalseBefore es bs n p x j places after (i + 1)
   one_mask_more masks after {i} {q} trues falses made inside long is judges done a body m upto =
       subst (λ (l : List ℕ). FalseWhere (get_or l m 0) j (full_at x a (get_or (bounds x a) m []))) (sym made)
       (by (ℕ_discrete m i))
@@ -160,7 +164,8 @@ module _ {es bs : List ℤ} {n p x : ℕ} (j : ℕ) {places : List ℕ} {k : ℕ
 
       by : Dec (m ≡ i) → FalseWhere (get_or (set masks i falses) m 0) j (full_at x a (get_or (bounds x a) m []))
       by (yes e) =
-          subst (λ (t : ℕ). FalseWhere (get_or (set masks i falses) t 0) j (full_at x a (get_or (bounds x a) t []))) (sym e)
+          subst (λ (t : ℕ). FalseWhere (get_or (set masks i falses) t 0) j (full_at x a (get_or (bounds x a) t [])))
+          (sym e)
           (subst (λ (mask : ℕ). FalseWhere mask j (full_at x a bound))
           (sym (get_or-set_same masks i falses 0 (omega (arith, inside, long)))) here)
       by (no f) = subst (λ (mask : ℕ). FalseWhere mask j (full_at x a (get_or (bounds x a) m [])))

@@ -1,7 +1,7 @@
 -- One more disjunct in front of those that are answered: what the walk asks for it, and how the answers join.
 -- Assumes nothing.
 use mathlib.Core.Path.{◌≡◌, sym, subst}
-use mathlib.Core.Bool.{Bool, true, false}
+use mathlib.Core.Bool.{true, false}
 use mathlib.Core.List.{List, ◌∷◌}
 use Prim.Native.Nat.{ℕ, ◌≤◌}
 use native.Mathlib.Omega.{arith}
@@ -17,12 +17,10 @@ use Rattle.builder.specs.declared.push.State.{State}
 use Rattle.folding.specs.Answers.{Gives, Sides, SomeSides, after, built_then, settled}
 use Rattle.folding.specs.declared.answers.Folded.{Folded}
 use Rattle.folding.proofs.AnswerLaws.{built_of, total_then, settled_join, some_sides_of}
-use Rattle.literals.specs.Changes.{Fair}
 use Rattle.walks.specs.Walk.{changed, Ready, SomeRule}
 use Rattle.walks.proofs.ChangedLaws.{changed_lighter}
-use Rattle.steps.specs.Disjoining.{Disjunct, SomeDisjunct, SomeFull}
-use Rattle.steps.specs.Put.{SomeBound}
-use Rattle.literals.specs.declared.change.Change.{Change}
+use Rattle.steps.specs.Disjoining.{Disjunct, SomeDisjunct}
+use Rattle.literals.specs.Changes.{Change}
 
 -- ---- one more disjunct
 
@@ -84,28 +82,3 @@ pub disjunct_answered : (vs : List ℤ) (b : State) (ds : List Node) (d : Rule) 
     → Gives vs b ds (fold_join (junction false) (fold d) (fold_any l)) r → Gives vs b ds (fold_any (d ∷ l)) r
 unfolding fold_any junction
 disjunct_answered vs b ds d l r gives = gives
-
--- ---- the sum that the code makes is the one that is meant
-
-module _ {es bs : List ℤ} {n p : ℕ} {c : Change} {ws : List ℤ} {b : State} {others : Folded} (u v : Sum) (same : u ≡ v)
-  where
-    pub some_with : SomeDisjunct es bs n p c v ws b others → SomeDisjunct es bs n p c u ws b others
-    some_with = subst (λ (s : Sum). SomeDisjunct es bs n p c s ws b others) (sym same)
-
-    pub answered_with : {a : Rule} {l : List Rule} {ds : List Node} (vs : List ℤ) (r : Folded)
-        → Disjunct es bs n p c v ws b a l ds others
-        → (Disjunct es bs n p c u ws b a l ds others → Gives vs b ds (fold_any (changed c u a ∷ l)) r)
-        → Gives vs b ds (fold_any (changed c v a ∷ l)) r
-    answered_with {a} {l} {ds} vs r d answered =
-        subst (λ (s : Sum). Gives vs b ds (fold_any (changed c s a ∷ l)) r) same
-        (answered (subst (λ (s : Sum). Disjunct es bs n p c s ws b a l ds others) (sym same) d))
-
--- what is asked to read a bound
-pub some_bound : {es bs : List ℤ} {n p x j q : ℕ} {told : Bool} {ws : List ℤ} {b : State} {others : Folded}
-    → SomeFull es bs n p x j told ws b others q → SomeBound bs x q
-some_bound f = record {
-  bound = f.bound;
-  at = f.at;
-  few = omega (arith, f.some.disjunct.there.few.few_words);
-  setting = unfold Fair in f.some.disjunct.usable.fair;
-}

@@ -29,7 +29,7 @@ use Rattle.walks.specs.Walk.{changed}
 use Rattle.steps.proofs.ThereLaws.{table_words}
 use Rattle.steps.proofs.DisjunctionWeights.{all_lighter, all_counted}
 use Rattle.steps.specs.Disjoining.{Disjunct, Disjoining, Disjoined}
-use Rattle.literals.specs.declared.change.Change.{Change}
+use Rattle.literals.specs.Changes.{Change}
 
 -- ---- no number of a disjunct passes the limit
 
@@ -101,8 +101,8 @@ module _ {es bs : List ℤ} {n p x P : ℕ} {b : State} {a : Rule} {ds : List No
 
 -- ---- at the start
 
-module _ {es bs : List ℤ} {n p x P : ℕ} {places : List ℕ} {k : ℕ} {ws : List ℤ} {b : State} (a : Rule) (ds : List Node)
-    (start : Disjoining es bs n p x P places k ws b a ds) where
+module _ {es bs : List ℤ} {n p x P : ℕ} {places : List ℕ} {ws : List ℤ} {b : State} (a : Rule) (ds : List Node)
+    (start : Disjoining es bs n p x P places ws b a ds) where
   pub none_answered : Disjoined es bs n p x P ws b a (for_each 1 P (fars x a) ++ for_each 1 P (nears x a)) [] ds
       (Known false)
   none_answered = record {

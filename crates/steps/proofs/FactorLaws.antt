@@ -34,8 +34,10 @@ use Rattle.literals.specs.Changes.{becomes, Fair}
 use Rattle.walks.specs.Literals.{Puttable}
 use Rattle.walks.specs.Walk.{changed, Ready}
 use Rattle.literals.specs.Literal.{Marked}
+use Rattle.tables.specs.Kinds.{number_of}
+use Rattle.tables.specs.declared.kind.Kind.TheVariants.{Divisible}
 use Rattle.steps.specs.Making.{new_of, BodyMaking}
-use Rattle.literals.specs.declared.change.Change.TheVariants.{Scaled}
+use Rattle.literals.specs.Changes.{Scaled}
 use Rattle.steps.specs.declared.made.Step.TheVariants.{CommonFactor}
 use Rattle.steps.proofs.ThereLaws.{table_words, zeros_usable}
 use Rattle.steps.proofs.MakingLaws.{answer, Binds}
@@ -89,7 +91,8 @@ module _ {es bs : List ℤ} {n p x D : ℕ} {ws : List ℤ} {b : State} {a : Rul
   light : 2 + weight multiplied + weight divided ≤ 2 + weight a + 9
   light = unfold scaled weight in scaled_lighter D x a m.setting.0 m.setting.1 m.there.formed
 
-  pub divisor_asks : (s : Sum) → s ≡ setting x → Puttable 6 D s b
+  pub divisor_asks : (s : Sum) → s ≡ setting x → Puttable (number_of Divisible) D s b
+  unfolding number_of
   divisor_asks s e = record {
     some = record {
       test = divisible true D;
@@ -101,19 +104,20 @@ module _ {es bs : List ℤ} {n p x D : ℕ} {ws : List ℤ} {b : State} {a : Rul
   }
 
   module _ (s : Sum) (e : s ≡ setting x) (ws₁ : List ℤ) (right : Folded)
-      (puts : (t : Test) (l : List Node) → Marked 6 D t → Built ws b l → Gives ws₁ b l (fold_literal t s) right) where
+      (puts : (t : Test) (l : List Node) → Marked (number_of Divisible) D t → Built ws b l → Gives ws₁ b l
+      (fold_literal t s) right) where
     right_gives : Gives ws₁ b ds (fold divided) right
-    unfolding fold
+    unfolding fold number_of
     right_gives = subst (λ (u : Sum). Gives ws₁ b ds (fold_literal (divisible true D) u) right) e
         (puts (divisible true D) ds (record { same_kind = refl; same_divisor = refl }) m.on.built)
 
-    module _ (u : Sum) (zeros : u ≡ number (pos 0)) (c : State) (then : c ≡ after b right) where
+    module _ (c : State) (then : c ≡ after b right) where
       pub scaled_ready : length ws₁ ≤ most_words
-          → Ready es bs n p (Scaled D x) u ws₁ c a (built_then ds (fold divided) right)
+          → Ready es bs n p (Scaled D x) (number (pos 0)) ws₁ c a (built_then ds (fold divided) right)
       unfolding Fair changed becomes new_of scaled some_literal
       scaled_ready room = record {
         at = m.there;
-        usable = zeros_usable (Scaled D x) u zeros (m.setting, fair.0, fair.1);
+        usable = zeros_usable (Scaled D x) (m.setting, fair.0, fair.1);
         numbers = (not_or (some_literal over_limit multiplied) (over_limit (divisible true D) (setting x))
             m.numbers).0;
         building = record {
@@ -132,8 +136,8 @@ module _ {es bs : List ℤ} {n p x D : ℕ} {ws : List ℤ} {b : State} {a : Rul
       }
 
       module _ (room : length ws₁ ≤ most_words) (ws₂ : List ℤ) (left : Folded)
-          (walk : (r : Rule) (l : List Node) → Ready es bs n p (Scaled D x) u ws₁ c r l
-          → Gives ws₂ c l (fold (changed (Scaled D x) u r)) left) where
+          (walk : (r : Rule) (l : List Node) → Ready es bs n p (Scaled D x) (number (pos 0)) ws₁ c r l
+          → Gives ws₂ c l (fold (changed (Scaled D x) (number (pos 0)) r)) left) where
         sides : Sides ws₂ true b ds (fold divided) (fold multiplied) right left
         unfolding fold changed becomes
         sides = sides_of ws ws₁ ws₂ true b ds (fold divided) (fold multiplied) right left m.on.built right_gives

@@ -2,14 +2,14 @@
 -- the first.
 -- Assumes nothing.
 use mathlib.Core.Path.{◌≡◌, refl, sym, ap, ◌∙◌, subst}
-use mathlib.Core.Bool.{Bool}
+use mathlib.Core.Bool.{Bool, true}
 use mathlib.Core.List.{List, [], ◌∷◌, ◌++◌}
 use Prim.Native.Nat.{ℕ, suc, ◌+◌, ◌-◌, ◌<◌, ◌≤◌}
 use native.Mathlib.Omega.{arith}
 use lib.Dec.{eqb}
 use lib.IntN.{ℤ, pos}
 use lib.ListN.{length}
-use Rattle.rules.specs.Sum.{number}
+use Rattle.rules.specs.Sum.{Sum, number}
 use Rattle.rules.specs.Rule.{Rule, False}
 use Rattle.rules.specs.Table.{Node, most_words}
 use Rattle.rules.specs.Fold.{fold}
@@ -26,9 +26,10 @@ use Rattle.tables.specs.Standing.{RuleAt}
 use Rattle.steps.specs.There.{SomeRuleThere}
 use Rattle.steps.specs.Blocks.{far_at, Judges}
 use Rattle.steps.specs.Disjoining.{Disjoined, Block, FarToCome, SomeFarToCome, FarFrom, FarBlock, SomeFarBlock}
-use Rattle.steps.specs.Disjoining.{Disjunct, ToldFalse, SomeFar}
-use Rattle.literals.specs.declared.change.Change.TheVariants.{Far}
+use Rattle.steps.specs.Disjoining.{Disjunct, SomeDisjunct}
+use Rattle.literals.specs.Changes.{Far}
 use Rattle.steps.proofs.BlockLaws.{judged_false, bit_told}
+use Rattle.steps.proofs.DisjunctLaws.{false_disjunct}
 use Rattle.steps.proofs.DisjunctionLaws.{regrouped, next, one_more}
 use Rattle.steps.proofs.SumLaws.{number_usable}
 use Rattle.steps.proofs.PeriodLaws.{no_j_yet, every_j, next_j, more_j, bit_of_j}
@@ -112,19 +113,13 @@ module _ {es bs : List ℤ} {n p x low high mask : ℕ} {ws : List ℤ} {b : Sta
   far_block_over {vs} j {f} above over done = let last : j ≡ low = omega arith in
       subst (λ (i : ℕ). FarSoFar es bs n p x low high mask ws b so_far vs i f) last done
 
-  -- that of the next j, the bit for which is told
-  module _ {vs : List ℤ} {j : ℕ} {f : Folded} {told : Bool}
-      (done : FarSoFar es bs n p x low high mask ws b so_far vs j f) (some : low < j) (upto : j ≤ high)
-      (is_told : told ≡ eqb (bit mask (j - low - 1)) 1) where
+  -- that of the next j
+  module _ {vs : List ℤ} {j : ℕ} {f : Folded} (done : FarSoFar es bs n p x low high mask ws b so_far vs j f)
+      (some : low < j) (upto : j ≤ high) where
     module _ (P : ℕ) (a : Rule) (l : List Rule) (ds : List Node)
         (start : FarBlock es bs n p x low high mask ws b P a l ds so_far) where
       inside : j ≤ P
       inside = omega (arith, upto, start.block.upto)
-
-      told_rightly : ToldFalse told (far_at x a j)
-      told_rightly e = subst (λ (m : ℕ). fold (far_at x a m) ≡ False) (bit_of_j low j some)
-          (start.falses (j - low - 1) (omega (arith, upto, start.block.short))
-          (bit_told mask (j - low - 1) is_told e))
 
       far_usable : Usable (Far x) (number (pos j))
       far_usable = number_usable x j start.from.of.setting (omega (arith, inside, start.from.of.period_fits.1))
@@ -137,33 +132,53 @@ module _ {es bs : List ℤ} {n p x low high mask : ℕ} {ws : List ℤ} {b : Sta
       far_next : Disjunct es bs n p (Far x) (number (pos j)) vs b a (for_each (suc j) (P - j) (fars x a) ++ l) ds f
       far_next = next (for_each 1 (j - 1) (fars x a)) (Far x) (number (pos j)) far_usable far_first
 
-    pub far_asks : SomeFarBlock es bs n p x low high mask ws b so_far
-        → (j ≤ most_period) × SomeFar es bs n p x j told vs b f
-    far_asks start =
-        let P = start.period in
-        let a = start.rule in
-        let known = start.far_block in (
-          omega (arith, inside P a _ _ known, known.from.of.period_fits.1),
-          record {
-            some = record {
-              rule = a;
-              others = for_each (suc j) (P - j) (fars x a) ++ start.others;
-              tail = start.tail;
-              disjunct = far_next P a start.others start.tail known;
-            };
-            told_false = told_rightly P a start.others start.tail known;
-          },
-        )
+      far_answered : (us : List ℤ) (g : Folded) → length us ≤ most_words
+          → Gives us b ds (fold_any (far_at x a j ∷ (for_each (suc j) (P - j) (fars x a) ++ l))) g
+          → FarFrom es bs n p x P us b a l ds (j - 1) g
+      far_answered us g room gives =
+          let rest = for_each (suc j) (P - j) (fars x a) ++ l in
+          more_j [] (fars x a) l (omega arith) inside
+          (regrouped refl (ap (λ (m : List Rule). m ++ rest) (sym (far_one x a j)))
+          (one_more (for_each 1 (j - 1) (fars x a)) (Far x) (number (pos j)) far_usable far_first us g room gives))
 
-    pub far_done : (us : List ℤ) (g : Folded) → (length ws ≤ most_words → length us ≤ most_words)
-        → ((a : Rule) (l : List Rule) (ds : List Node) → ToldFalse told (far_at x a j)
-        → Disjunct es bs n p (Far x) (number (pos j)) vs b a l ds f
-        → Gives us b ds (fold_any (far_at x a j ∷ l)) g)
-        → FarSoFar es bs n p x low high mask ws b so_far us (j - 1) g
-    far_done us g room answered P a l ds start =
-        let rest = for_each (suc j) (P - j) (fars x a) ++ l in
-        let gives = answered a rest ds (told_rightly P a l ds start) (far_next P a l ds start) in
-        more_j [] (fars x a) l (omega arith) (inside P a l ds start)
-        (regrouped refl (ap (λ (m : List Rule). m ++ rest) (sym (far_one x a j)))
-        (one_more (for_each 1 (j - 1) (fars x a)) (Far x) (number (pos j)) (far_usable P a l ds start)
-        (far_first P a l ds start) us g (room start.from.room) gives))
+    -- told by its bit to be false, it is passed over
+    pub far_passed : {told : Bool} → told ≡ eqb (bit mask (j - low - 1)) 1 → told ≡ true
+        → FarSoFar es bs n p x low high mask ws b so_far vs (j - 1) f
+    far_passed is_told e P a l ds start =
+        let d = far_next P a l ds start in
+        far_answered P a l ds start vs f d.room
+        (false_disjunct vs b ds _ _ f
+        (subst (λ (m : ℕ). fold (far_at x a m) ≡ False) (bit_of_j low j some)
+        (start.falses (j - low - 1) (omega (arith, upto, start.block.short)) (bit_told mask (j - low - 1) is_told e)))
+        d.gives)
+
+    pub far_upto : SomeFarBlock es bs n p x low high mask ws b so_far → j ≤ most_period
+    far_upto start =
+        let known = start.far_block in omega (arith, inside _ start.rule _ _ known, known.from.of.period_fits.1)
+
+    -- u is its sum
+    module _ (u : Sum) (sum : u ≡ number (pos j)) where
+      far_disjunct : (P : ℕ) (a : Rule) (l : List Rule) (ds : List Node)
+          → FarBlock es bs n p x low high mask ws b P a l ds so_far
+          → Disjunct es bs n p (Far x) u vs b a (for_each (suc j) (P - j) (fars x a) ++ l) ds f
+      far_disjunct P a l ds start =
+          subst (λ (s : Sum). Disjunct es bs n p (Far x) s vs b a (for_each (suc j) (P - j) (fars x a) ++ l) ds f)
+          (sym sum) (far_next P a l ds start)
+
+      pub far_asks : SomeFarBlock es bs n p x low high mask ws b so_far → SomeDisjunct es bs n p (Far x) u vs b f
+      far_asks start = record {
+        rule = start.rule;
+        others = for_each (suc j) (start.period - j) (fars x start.rule) ++ start.others;
+        tail = start.tail;
+        disjunct = far_disjunct start.period start.rule start.others start.tail start.far_block;
+      }
+
+      pub far_done : (us : List ℤ) (g : Folded) → (length ws ≤ most_words → length us ≤ most_words)
+          → ((a : Rule) (l : List Rule) (ds : List Node) → Disjunct es bs n p (Far x) u vs b a l ds f
+          → Gives us b ds (fold_any (changed (Far x) u a ∷ l)) g)
+          → FarSoFar es bs n p x low high mask ws b so_far us (j - 1) g
+      far_done us g room answered P a l ds start =
+          far_answered P a l ds start us g (room start.from.room)
+          (subst (λ (s : Sum). Gives us b ds (fold_any (changed (Far x) s a ∷ (for_each (suc j) (P - j)
+          (fars x a) ++ l))) g)
+          sum (answered a (for_each (suc j) (P - j) (fars x a) ++ l) ds (far_disjunct P a l ds start)))

@@ -29,10 +29,10 @@ use Rattle.steps.proofs.PeriodLaws.{no_j_yet, every_j, next_j, more_j, bit_of_j}
 -- ---- block by block
 
 -- for every body that may stand there, the full bodies of the j's over this one are answered
-abbrev pub FullDone : (es bs : List ℤ) (n p x P : ℕ) (places : List ℕ) (k : ℕ) (ws : List ℤ) (b : State)
+abbrev pub FullDone : (es bs : List ℤ) (n p x P : ℕ) (places : List ℕ) (ws : List ℤ) (b : State)
     (vs : List ℤ) (j : ℕ) (f : Folded) → Type 0
-FullDone es bs n p x P places k ws b vs j f = (a : Rule) (ds : List Node)
-    → Disjoining es bs n p x P places k ws b a ds → FullFrom es bs n p x P vs b a ds j f
+FullDone es bs n p x P places ws b vs j f = (a : Rule) (ds : List Node)
+    → Disjoining es bs n p x P places ws b a ds → FullFrom es bs n p x P vs b a ds j f
 
 -- a true one makes all before it true
 settled_beats : (ws : List ℤ) (b : State) (ds : List Node) (k l : List Rule) (f : Folded) → settled false f ≡ true
@@ -42,8 +42,8 @@ settled_beats ws b ds k l (Known true) settles gives = (true_beats k l gives.0, 
 settled_beats ws b ds k l (Known false) settles gives = absurd (subst T (sym settles) tt)
 settled_beats ws b ds k l (Pushed c) settles gives = absurd (subst T (sym settles) tt)
 
-pub no_full_yet : {es bs : List ℤ} {n p x P : ℕ} {places : List ℕ} {k : ℕ} {ws : List ℤ} {b : State}
-    → FullDone es bs n p x P places k ws b ws P (Known false)
+pub no_full_yet : {es bs : List ℤ} {n p x P : ℕ} {places : List ℕ} {ws : List ℤ} {b : State}
+    → FullDone es bs n p x P places ws b ws P (Known false)
 no_full_yet {x = x} {P = P} a ds start =
     no_j_yet (for_each 1 P (fars x a)) (nears x a) [] (none_answered a ds start)
 
@@ -52,8 +52,8 @@ no_sum [] e = refl
 no_sum (u ∷ us) e = absurd (omega (arith, e))
 
 -- without a bound there is no full body
-pub no_full : {es bs : List ℤ} {n p x P : ℕ} {places : List ℕ} {k : ℕ} {ws : List ℤ} {b : State} → k ≡ 0
-    → (a : Rule) (ds : List Node) → Disjoining es bs n p x P places k ws b a ds
+pub no_full : {es bs : List ℤ} {n p x P : ℕ} {places : List ℕ} {ws : List ℤ} {b : State} → length places ≡ 0
+    → (a : Rule) (ds : List Node) → Disjoining es bs n p x P places ws b a ds
     → FarToCome es bs n p x P ws b a (for_each 1 P (nears x a)) ds (Known false)
 no_full {x = x} {P = P} without a ds start =
     let at : List Sum → ℕ → List Rule = λ us j. map (λ u. body_at x (add u (number (pos j))) a) us in
@@ -63,34 +63,35 @@ no_full {x = x} {P = P} without a ds start =
     let first = for_each 1 P (fars x a) in
     regrouped (ap (λ (l : List Rule). first ++ l) none ∙ append-nil first) (sym none) (none_answered a ds start)
 
-module _ {es bs : List ℤ} {n p x P : ℕ} {places : List ℕ} {k : ℕ} {ws : List ℤ} {b : State} where
+module _ {es bs : List ℤ} {n p x P : ℕ} {places : List ℕ} {ws : List ℤ} {b : State} where
   -- the body, with its bounds
-  body_bounds : {a : Rule} {ds : List Node} → Disjoining es bs n p x P places k ws b a ds
-      → BodyBounds es bs n p x places k a
+  body_bounds : {a : Rule} {ds : List Node} → Disjoining es bs n p x P places ws b a ds
+      → BodyBounds es bs n p x places a
   body_bounds start = record {
     there = start.of.there;
     setting = start.of.setting;
     bounds_at = start.bounds_at;
   }
 
-  pub masks_ask : (low : ℕ) → low < P → (masks : List ℕ) → k ≤ length masks → SomeDisjoining es bs n p x P places k ws b
-      → SomeBodyBounds es bs n p x places k × (low + 1 ≤ most_period) × (k ≤ length masks)
+  pub masks_ask : (low : ℕ) → low < P → (masks : List ℕ) → length masks ≡ length places
+      → SomeDisjoining es bs n p x P places ws b
+      → SomeBodyBounds es bs n p x places × (low + 1 ≤ most_period) × (length places ≤ length masks)
   masks_ask low inside masks long start = (
     record { rule = start.rule; body = body_bounds start.disjoining },
     omega (arith, start.disjoining.of.period_fits.1),
-    long,
+    omega (arith, long),
   )
 
   module _ {vs : List ℤ} {f : Folded} where
-    pub full_over : (j : ℕ) → j ≤ 0 → FullDone es bs n p x P places k ws b vs j f → (a : Rule) (ds : List Node)
-        → Disjoining es bs n p x P places k ws b a ds
+    pub full_over : (j : ℕ) → j ≤ 0 → FullDone es bs n p x P places ws b vs j f → (a : Rule) (ds : List Node)
+        → Disjoining es bs n p x P places ws b a ds
         → FarToCome es bs n p x P vs b a (for_each 1 P (nears x a)) ds f
     full_over j over done a ds start = regrouped refl (append-nil (for_each 1 P (nears x a)))
         (every_j (for_each 1 P (fars x a)) (nears x a) [] j over (done a ds start))
 
     -- where one of them is true, those before it are not looked at
-    pub full_settled : (j : ℕ) → j ≤ P → settled false f ≡ true → FullDone es bs n p x P places k ws b vs j f
-        → (a : Rule) (ds : List Node) → Disjoining es bs n p x P places k ws b a ds
+    pub full_settled : (j : ℕ) → j ≤ P → settled false f ≡ true → FullDone es bs n p x P places ws b vs j f
+        → (a : Rule) (ds : List Node) → Disjoining es bs n p x P places ws b a ds
         → FarToCome es bs n p x P vs b a (for_each 1 P (nears x a)) ds f
     full_settled j upto s done a ds start =
         let F = nears x a in
@@ -103,11 +104,12 @@ module _ {es bs : List ℤ} {n p x P : ℕ} {places : List ℕ} {k : ℕ} {ws : 
         (settled_beats vs b ds (for_each 1 j F) (rest ++ []) f s here.gives))
 
     -- a block's full bodies, whose masks are made
-    module _ {low high : ℕ} {masks : List ℕ} (done : FullDone es bs n p x P places k ws b vs high f)
-        (block : Block low high P) (long : k ≤ length masks)
-        (falses : (a : Rule) → BodyBounds es bs n p x places k a → FalseAtBounds masks x (low + 1) k a) where
-      full_block_of : (a : Rule) (ds : List Node) → Disjoining es bs n p x P places k ws b a ds
-          → FullBlock es bs n p x low high places masks k vs b P a ds f
+    module _ {low high : ℕ} {masks : List ℕ} (done : FullDone es bs n p x P places ws b vs high f)
+        (block : Block low high P) (long : length masks ≡ length places)
+        (falses : (a : Rule) → BodyBounds es bs n p x places a → FalseAtBounds masks x (low + 1)
+        (length places) a) where
+      full_block_of : (a : Rule) (ds : List Node) → Disjoining es bs n p x P places ws b a ds
+          → FullBlock es bs n p x low high places masks vs b P a ds f
       full_block_of a ds start = record {
         from = done a ds start;
         block = block;
@@ -116,8 +118,8 @@ module _ {es bs : List ℤ} {n p x P : ℕ} {places : List ℕ} {k : ℕ} {ws : 
         falses = falses a (body_bounds start);
       }
 
-      pub full_block_asks : SomeDisjoining es bs n p x P places k ws b
-          → SomeFullBlock es bs n p x low high places masks k vs b f
+      pub full_block_asks : SomeDisjoining es bs n p x P places ws b
+          → SomeFullBlock es bs n p x low high places masks vs b f
       full_block_asks start = record {
         period = P;
         rule = start.rule;
@@ -126,36 +128,36 @@ module _ {es bs : List ℤ} {n p x P : ℕ} {places : List ℕ} {k : ℕ} {ws : 
       }
 
       pub full_block_done : (us : List ℤ) (g : Folded)
-          → ((P : ℕ) (a : Rule) (ds : List Node) → FullBlock es bs n p x low high places masks k vs b P a ds f
+          → ((P : ℕ) (a : Rule) (ds : List Node) → FullBlock es bs n p x low high places masks vs b P a ds f
           → FullFrom es bs n p x P us b a ds low g)
-          → FullDone es bs n p x P places k ws b us low g
+          → FullDone es bs n p x P places ws b us low g
       full_block_done us g answered a ds start = answered P a ds (full_block_of a ds start)
 
 -- ---- in one block
 
 -- whatever body the block is of, the full bodies of the j's over this one are answered
-abbrev pub FullSoFar : (es bs : List ℤ) (n p x low high : ℕ) (places masks : List ℕ) (k : ℕ) (ws : List ℤ) (b : State)
+abbrev pub FullSoFar : (es bs : List ℤ) (n p x low high : ℕ) (places masks : List ℕ) (ws : List ℤ) (b : State)
     (so_far : Folded) (vs : List ℤ) (j : ℕ) (f : Folded) → Type 0
-FullSoFar es bs n p x low high places masks k ws b so_far vs j f = (P : ℕ) (a : Rule) (ds : List Node)
-    → FullBlock es bs n p x low high places masks k ws b P a ds so_far → FullFrom es bs n p x P vs b a ds j f
+FullSoFar es bs n p x low high places masks ws b so_far vs j f = (P : ℕ) (a : Rule) (ds : List Node)
+    → FullBlock es bs n p x low high places masks ws b P a ds so_far → FullFrom es bs n p x P vs b a ds j f
 
-module _ {es bs : List ℤ} {n p x low high : ℕ} {places masks : List ℕ} {k : ℕ} {ws : List ℤ} {b : State}
+module _ {es bs : List ℤ} {n p x low high : ℕ} {places masks : List ℕ} {ws : List ℤ} {b : State}
     {so_far : Folded} where
-  pub full_block_starts : FullSoFar es bs n p x low high places masks k ws b so_far ws high so_far
+  pub full_block_starts : FullSoFar es bs n p x low high places masks ws b so_far ws high so_far
   full_block_starts P a ds start = start.from
 
   pub full_block_over : {vs : List ℤ} (j : ℕ) {f : Folded} → low ≤ j → j ≤ low
-      → FullSoFar es bs n p x low high places masks k ws b so_far vs j f
-      → FullSoFar es bs n p x low high places masks k ws b so_far vs low f
+      → FullSoFar es bs n p x low high places masks ws b so_far vs j f
+      → FullSoFar es bs n p x low high places masks ws b so_far vs low f
   full_block_over {vs} j {f} above over done = let last : j ≡ low = omega arith in
-      subst (λ (i : ℕ). FullSoFar es bs n p x low high places masks k ws b so_far vs i f) last done
+      subst (λ (i : ℕ). FullSoFar es bs n p x low high places masks ws b so_far vs i f) last done
 
   -- the full bodies of the next j
   module _ {vs : List ℤ} {j : ℕ} {f : Folded}
-      (done : FullSoFar es bs n p x low high places masks k ws b so_far vs j f) (some : low < j) (upto : j ≤ high) where
+      (done : FullSoFar es bs n p x low high places masks ws b so_far vs j f) (some : low < j) (upto : j ≤ high) where
     at_bounds_of : (P : ℕ) (a : Rule) (ds : List Node)
-        → FullBlock es bs n p x low high places masks k ws b P a ds so_far
-        → AtBounds es bs n p x j (j - low - 1) places masks k vs b P a
+        → FullBlock es bs n p x low high places masks ws b P a ds so_far
+        → AtBounds es bs n p x j (j - low - 1) places masks vs b P a
         (for_each 1 P (fars x a) ++ for_each 1 (j - 1) (nears x a)) (for_each (suc j) (P - j) (nears x a) ++ []) ds f
     at_bounds_of P a ds start =
         let inside : j ≤ P = omega (arith, upto, start.block.upto) in
@@ -169,8 +171,8 @@ module _ {es bs : List ℤ} {n p x low high : ℕ} {places masks : List ℕ} {k 
               (start.falses i inside (j - low - 1) (omega (arith, upto, start.block.short)) there);
         }
 
-    pub at_bounds_asks : SomeFullBlock es bs n p x low high places masks k ws b so_far
-        → SomeAtBounds es bs n p x j (j - low - 1) places masks k vs b f
+    pub at_bounds_asks : SomeFullBlock es bs n p x low high places masks ws b so_far
+        → SomeAtBounds es bs n p x j (j - low - 1) places masks vs b f
     at_bounds_asks start =
         let P = start.period in
         let a = start.rule in
@@ -185,9 +187,9 @@ module _ {es bs : List ℤ} {n p x low high : ℕ} {places masks : List ℕ} {k 
 
     pub at_bounds_done : (us : List ℤ) (g : Folded)
         → ((P : ℕ) (a : Rule) (before l : List Rule) (ds : List Node)
-        → AtBounds es bs n p x j (j - low - 1) places masks k vs b P a before l ds f
+        → AtBounds es bs n p x j (j - low - 1) places masks vs b P a before l ds f
         → Disjoined es bs n p x P us b a before (nears x a j ++ l) ds g)
-        → FullSoFar es bs n p x low high places masks k ws b so_far us (j - 1) g
+        → FullSoFar es bs n p x low high places masks ws b so_far us (j - 1) g
     at_bounds_done us g answered P a ds start =
         more_j (for_each 1 P (fars x a)) (nears x a) [] (omega arith) (omega (arith, upto, start.block.upto))
         (answered P a _ (for_each (suc j) (P - j) (nears x a) ++ []) ds (at_bounds_of P a ds start))

@@ -8,7 +8,7 @@ use Prim.Native.Nat.{ℕ, ◌+◌, ◌*◌, ◌<◌, ◌≤◌}
 use native.Mathlib.Omega.{arith}
 use lib.Dec.{T_not}
 use lib.IntN.{ℤ, pos}
-use Rattle.rules.specs.Sum.{Sum, number, limit}
+use Rattle.rules.specs.Sum.{number, limit}
 use Rattle.rules.specs.Rule.{Rule, Not, Bind, Some}
 use Rattle.rules.specs.Table.{Node}
 use Rattle.rules.specs.Fold.{fold_not, fold}
@@ -25,9 +25,9 @@ use Rattle.folding.specs.declared.answers.Folded.{Folded}
 use Rattle.walks.specs.Walk.{changed, Ready}
 use Rattle.walks.specs.Normal.{NormalReady, Normalled}
 use Rattle.steps.specs.Making.{new_of, BodyMaking}
-use Rattle.literals.specs.declared.change.Change.TheVariants.{Same}
-use Rattle.walks.specs.declared.normal.Normal.{Normal}
-use Rattle.walks.specs.declared.normal.Normal.TheVariants.{OverLimit, Made}
+use Rattle.literals.specs.Changes.{Same}
+use Rattle.std.specs.Prelude.{Option, None}
+use Rattle.std.specs.declared.option.Option.TheVariants as option
 use Rattle.steps.specs.declared.made.Step.{Step}
 use Rattle.steps.specs.declared.made.Step.TheVariants.{ForAll, NormalForm}
 use Rattle.builder.specs.Built.{most_counted}
@@ -61,19 +61,19 @@ Binds x ws vs b f g = (y : Rule) (l : List Node) → Gives ws b l y f → Gives 
 -- ---- for-all
 
 module _ {es bs : List ℤ} {n p x : ℕ} {ws : List ℤ} {b : State} {a : Rule} {ds : List Node}
-    (u : Sum) (zeros : u ≡ number (pos 0)) (m : BodyMaking es bs n p ForAll x ws b a ds) where
+    (m : BodyMaking es bs n p ForAll x ws b a ds) where
   body_small : total ds + weight a + 1 < most_counted
   body_small = omega (arith, table_words m.there, m.on.small)
 
-  pub body_ready : Ready es bs n p Same u ws b a ds
-  body_ready = same_ready zeros m.there m.on.built body_small m.on.room
+  pub body_ready : Ready es bs n p Same (number (pos 0)) ws b a ds
+  body_ready = same_ready m.there m.on.built body_small m.on.room
 
   module _ (ws₁ : List ℤ) (body : Folded)
-      (walk : (r : Rule) (l : List Node) → Ready es bs n p Same u ws b r l
-      → Gives ws₁ b l (fold (changed Same u r)) body)
+      (walk : (r : Rule) (l : List Node) → Ready es bs n p Same (number (pos 0)) ws b r l
+      → Gives ws₁ b l (fold (changed Same (number (pos 0)) r)) body)
     where
       body_gives : Gives ws₁ b ds (fold a) body
-      body_gives = same_gives zeros m.there m.on.built body_small m.on.room ws₁ body walk
+      body_gives = same_gives m.there m.on.built body_small m.on.room ws₁ body walk
 
       pub body_answer : Answered ws₁ b body 1
       body_answer = answer m ws₁ body a 1 (omega arith) body_gives
@@ -113,19 +113,19 @@ module _ {es bs : List ℤ} {n p x : ℕ} {ws : List ℤ} {b : State} {a : Rule}
     building = building_less m.on (omega (arith, table_words m.there));
   }
 
-  module _ (ws₁ : List ℤ) (body : Normal)
+  module _ (ws₁ : List ℤ) (body : Option Folded)
       (walk : (r : Rule) (l : List Node) → NormalReady es bs n p x ws b r l → Normalled ws₁ b l (normal true x r) body)
     where
       body_normalled : Normalled ws₁ b ds (normal true x a) body
       body_normalled = walk a ds normal_ready
 
       -- no number passes the limit
-      pub never_over : {A : Type 0} → body ≡ OverLimit → A
+      pub never_over : {A : Type 0} → body ≡ None → A
       unfolding new_of some_literal Normalled
       never_over e = absurd (T_not (some_literal over_limit (normal true x a)) m.numbers
           (subst (Normalled ws₁ b ds (normal true x a)) e body_normalled))
 
-      module _ (made : Folded) (is_made : body ≡ Made made) where
+      module _ (made : Folded) (is_made : body ≡ option.Some made) where
         made_gives : Gives ws₁ b ds (fold (normal true x a)) made
         unfolding Normalled
         made_gives = (subst (Normalled ws₁ b ds (normal true x a)) is_made body_normalled).1

@@ -2,20 +2,16 @@
 -- bounds of step 3.
 -- Assumes nothing.
 use mathlib.Core.Path.{◌≡◌, refl, sym, ◌∙◌, ap, ap₂, subst}
-use mathlib.Core.Bool.{Bool, true, false, ◌||◌, or_assoc}
+use mathlib.Core.Bool.{Bool, true, false, ◌||◌}
 use mathlib.Core.List.{List, [], ◌∷◌, ◌++◌}
 use Prim.Native.Nat.{ℕ, zero, suc, ◌+◌, ◌*◌, ◌<◌, ◌≤◌}
 use native.Mathlib.Omega.{arith}
-use borrow.Author.Tests.{eq-eqb, ne_eqb}
-use lib.Dec.{T, eqb, eqb→eq}
-use lib.IntN.{ℤ, pos, negsuc, nat_abs}
+use lib.Dec.{eqb}
+use lib.IntN.{ℤ, pos, nat_abs}
 use lib.ListN.{length, get_or, drop}
-use mir.Syntax.{w32}
-use mir.Val.{SFits, to_z, of_z}
-use mir.Facts.{to_z-of_z}
-use Rattle.rules.specs.Sum.{Sum, factor, limit, number}
+use Rattle.rules.specs.Sum.{Sum, limit, number}
 use Rattle.rules.specs.Rule.{Test, Rule, Constant, Join, Not, Literal, Bind}
-use Rattle.rules.specs.Literals.{some_literal, map_literals, gather}
+use Rattle.rules.specs.Literals.{some_literal, map_literals}
 use Rattle.rules.specs.Steps.{bounds, far_left, body_at, disjunction}
 use Rattle.rules.specs.Eliminate.{over_limit}
 use Rattle.rules.specs.Calls.{words}
@@ -27,15 +23,15 @@ use Rattle.bodies.specs.Body.{SomeBody, BoundAt, BoundsAt}
 use Rattle.bodies.specs.Cursor as cursor
 use Rattle.bodies.specs.Cursor.{literals_of}
 use Rattle.bodies.proofs.CursorLaws.{literal_inside}
-use Rattle.bodies.proofs.ScanLaws.{Passed}
+use Rattle.bodies.proofs.LiteralsLaws.{Passed, some_of, some_append, some_gathered}
 use Rattle.literals.specs.Literal.{start_of, LiteralAt, SomeLiteral}
 use Rattle.literals.specs.Changes.{becomes}
 use Rattle.literals.proofs.Literals.{literal_word}
 use Rattle.walks.specs.Walk.{changed}
 use Rattle.steps.specs.Put.{SomeBound}
 use Rattle.steps.specs.Numbers.{at_limit, SomeBounds}
-use Rattle.literals.specs.declared.change.Change.{Change}
-use Rattle.literals.specs.declared.change.Change.TheVariants.{Far, Full}
+use Rattle.literals.specs.Changes.{Change}
+use Rattle.literals.specs.Changes.{Far, Full}
 use Rattle.steps.proofs.SumLaws.{above}
 
 -- ---- one of two
@@ -45,6 +41,9 @@ or_first q e = sym (ap (λ (b : Bool). b || q) e)
 
 pub or_second : {p q r : Bool} → p ≡ false → r ≡ q → r ≡ (p || q)
 or_second {q = q} e f = f ∙ sym (ap (λ (b : Bool). b || q) e)
+
+pub ends_are : {p q r s : Bool} → p ≡ r → q ≡ s → (p || q) ≡ (r || s)
+ends_are e f = ap₂ ◌||◌ e f
 
 -- ---- the literal that the loop is at
 
@@ -70,33 +69,6 @@ module _ (l : List ℕ) (p : ℕ) {end : ℕ} where
     part_literal = record { node = s.at.node; test = s.test; sum = s.sum; at = literal_part s.at }
 
 -- ---- over the literals of a body
-
--- some literal of a list is as q says
-unfoldable pub some_of : (Test → Sum → Bool) → List (Test × Sum) → Bool
-some_of q [] = false
-some_of q (l ∷ ls) = q l.0 l.1 || some_of q ls
-
-pub some_append : (q : Test → Sum → Bool) (ks ls : List (Test × Sum))
-    → some_of q (ks ++ ls) ≡ (some_of q ks || some_of q ls)
-unfolding some_of
-some_append q [] ls = refl
-some_append q (k ∷ ks) ls =
-    ap (λ (b : Bool). q k.0 k.1 || b) (some_append q ks ls)
-    ∙ sym (or_assoc (q k.0 k.1) (some_of q ks) (some_of q ls))
-
--- in a body, it is one of its literals
-pub some_gathered : (q : Test → Sum → Bool) (a : Rule) → some_literal q a ≡ some_of q (literals_of a)
-unfolding some_literal some_of literals_of gather
-some_gathered q (Constant b) = refl
-some_gathered q (Join j a b) =
-    ap₂ ◌||◌ (some_gathered q a) (some_gathered q b) ∙ sym (some_append q (literals_of a) (literals_of b))
-some_gathered q (Not a) = some_gathered q a
-some_gathered q (Literal t s) = last (q t s)
-  where
-    last : (b : Bool) → b ≡ (b || false)
-    last true = refl
-    last false = refl
-some_gathered q (Bind r v a) = some_gathered q a
 
 module _ (p : Test → Sum → Bool) (g : Test → Sum → Rule) where
   -- in a body whose literals are made anew, it is in what is made of one
@@ -142,33 +114,14 @@ module _ (c : Change) (u : Sum) where
 
 -- ---- c at the limit
 
-module _ {c : ℤ} (fits : SFits w32 c) where
-  -- read as bits: 2,147,483,649 are those of −2,147,483,647
-  lowest_bits : ¬ (of_z w32 c ≡ limit) → eqb (of_z w32 c) 2147483649 ≡ eqb (nat_abs c) limit
-  lowest_bits = by c fits
-    where
-      by : (c : ℤ) → SFits w32 c → ¬ (of_z w32 c ≡ limit) → eqb (of_z w32 c) 2147483649 ≡ eqb (nat_abs c) limit
-      by (pos n) f other = ne_eqb n 2147483649 (λ e. omega (arith, f.sfits)) ∙ sym (ne_eqb n limit other)
-      by (negsuc n) f other = go (eqb (suc n) limit) refl
-        where
-          go : (b : Bool) → eqb (suc n) limit ≡ b → eqb (of_z w32 (negsuc n)) 2147483649 ≡ b
-          go true e = eq-eqb (of_z w32 (negsuc n)) 2147483649 (omega (arith, eqb→eq (suc n) limit (subst T (sym e) tt)))
-          go false e = ne_eqb (of_z w32 (negsuc n)) 2147483649
-              (λ i. absurd (subst T (sym (eq-eqb (suc n) limit (omega (arith, i))) ∙ e) tt))
-
-  module _ {ws : List ℤ} {at : ℕ} (here : c ≡ get_or ws at (pos 0)) {n : ℕ} {t : Test} {s : Sum} (l : LiteralAt ws n t s)
-      (starts : at ≡ start_of t) where
-    constant_is : c ≡ factor 0 s
-    constant_is =
-        let first : at ≡ start_of t + 0 = omega (arith, starts) in
-        here ∙ ap (λ (i : ℕ). get_or ws i (pos 0)) first ∙ literal_word t 0 l (omega arith)
-
-    pub highest : of_z w32 c ≡ limit → true ≡ at_limit t s
-    highest e =
-        ap (λ (z : ℤ). eqb (nat_abs z) limit) (ap (to_z w32) (sym e) ∙ to_z-of_z fits ∙ constant_is)
-
-    pub lowest_decides : ¬ (of_z w32 c ≡ limit) → eqb (of_z w32 c) 2147483649 ≡ at_limit t s
-    lowest_decides other = lowest_bits other ∙ ap (λ (z : ℤ). eqb (nat_abs z) limit) constant_is
+-- the size of the word where T starts
+pub limit_decides : {c : ℤ} {ws : List ℤ} {at m : ℕ} → c ≡ get_or ws at (pos 0) → {n : ℕ} {t : Test} {s : Sum}
+    → LiteralAt ws n t s → at ≡ start_of t → m ≡ nat_abs c → eqb m limit ≡ at_limit t s
+limit_decides {ws = ws} {at = at} here {t = t} l starts size =
+    let first : at ≡ start_of t + 0 = omega (arith, starts) in
+    ap (λ (k : ℕ). eqb k limit) size
+    ∙ ap (λ (z : ℤ). eqb (nat_abs z) limit)
+    (here ∙ ap (λ (i : ℕ). get_or ws i (pos 0)) first ∙ literal_word t 0 l (omega arith))
 
 -- ---- the disjuncts of one j
 
@@ -186,17 +139,18 @@ full_is x j u a b e = ap (λ (u : Sum). some_literal over_limit (body_at x u a))
 
 -- ---- over the bounds
 
-module _ {bs : List ℤ} {x : ℕ} {places : List ℕ} {k : ℕ} where
+module _ {bs : List ℤ} {x : ℕ} {places : List ℕ} where
   -- the bound of index i, at the place that is read
-  pub bound_here : {us : List Sum} → BoundsAt bs x places k us → (i p : ℕ) → i < k → p ≡ get_or places i 0
+  pub bound_here : {us : List Sum} → BoundsAt bs x places (length places) us → (i p : ℕ) → i < length places
+      → p ≡ get_or places i 0
       → BoundAt bs x p (get_or us i [])
   bound_here {us} b i p inside e = subst (λ (p : ℕ). BoundAt bs x p (get_or us i [])) (sym e) (b.each i inside)
 
-  module _ {end : ℕ} (s : SomeBounds bs end x places k) where
+  module _ {end : ℕ} (s : SomeBounds bs end x places) where
     pub bounds_body : SomeBody bs end
     bounds_body = record { number = s.number; rule = s.rule; body = s.body; few = s.few }
 
-    pub some_bound_here : (1 ≤ x) × (x ≤ 6) → (i p : ℕ) → i < k → p ≡ get_or places i 0 → SomeBound bs x p
+    pub some_bound_here : (1 ≤ x) × (x ≤ 6) → (i p : ℕ) → i < length places → p ≡ get_or places i 0 → SomeBound bs x p
     some_bound_here r i p inside e =
         record { bound = _; at = bound_here s.at i p inside e; few = s.few; setting = r }
 
@@ -223,21 +177,22 @@ bound_over P x a b = full_over x a b 1 || full_over x a b P
 abbrev pub Left : ℕ → ℕ → Rule → ℕ → Type 0
 Left P x a i = some_bound (bound_over P x a) (bounds x a) ≡ some_bound (bound_over P x a) (drop i (bounds x a))
 
-module _ {bs : List ℤ} {x : ℕ} {places : List ℕ} {k : ℕ} (P : ℕ) (a : Rule) (at : BoundsAt bs x places k (bounds x a))
+module _ {bs : List ℤ} {x : ℕ} {places : List ℕ} (P : ℕ) (a : Rule)
+    (at : BoundsAt bs x places (length places) (bounds x a))
     (i : ℕ) (left : Left P x a i) where
-  pub left_none : i < k → false ≡ bound_over P x a (get_or (bounds x a) i []) → Left P x a (i + 1)
+  pub left_none : i < length places → false ≡ bound_over P x a (get_or (bounds x a) i []) → Left P x a (i + 1)
   left_none inside e =
       let next : suc i ≡ i + 1 = omega arith in
       left ∙ bound_next (bound_over P x a) (bounds x a) i (omega (arith, at.as_many))
       ∙ sym (or_second (sym e) refl)
       ∙ ap (λ (m : ℕ). some_bound (bound_over P x a) (drop m (bounds x a))) next
 
-  pub left_one : i < k → true ≡ bound_over P x a (get_or (bounds x a) i [])
+  pub left_one : i < length places → true ≡ bound_over P x a (get_or (bounds x a) i [])
       → some_bound (bound_over P x a) (bounds x a) ≡ true
   left_one inside e =
       left ∙ bound_next (bound_over P x a) (bounds x a) i (omega (arith, at.as_many)) ∙ sym (or_first _ (sym e))
 
-  pub left_over : k ≤ i → some_bound (bound_over P x a) (bounds x a) ≡ false
+  pub left_over : length places ≤ i → some_bound (bound_over P x a) (bounds x a) ≡ false
   left_over over = left ∙ bound_last (bound_over P x a) (bounds x a) i (omega (arith, at.as_many))
 
 -- ---- the disjunction

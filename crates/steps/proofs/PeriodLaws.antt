@@ -53,9 +53,9 @@ module _ {es bs : List ℤ} {n p x P : ℕ} {b : State} {a : Rule} (first : List
 
 -- ---- a block
 
--- the next block: so many j's up to high
-pub next_block : (high width P : ℕ) → width ≤ 64 → width ≤ high → high ≤ P → Block (high - width) high P
-next_block high width P short some upto = record { some = omega arith; short = omega arith; upto = upto }
+-- the next block: 64 j's up to high, or what is left
+pub next_block : {low : ℕ} (high P : ℕ) → low ≡ high - 64 → high ≤ P → Block low high P
+next_block high P is upto = record { some = omega arith; short = omega arith; upto = upto }
 
 -- bit j - low - 1 of a block is for j
 pub bit_of_j : (low j : ℕ) → low < j → low + 1 + (j - low - 1) ≡ j

@@ -21,23 +21,22 @@ use Rattle.judging.specs.Judging.{at_sum, Judging}
 use Rattle.tables.specs.Standing.{RuleAt}
 use Rattle.steps.specs.Blocks.{BodyBounds, SomeBodyBounds, full_at}
 use Rattle.steps.specs.Surveying.{folds_true, stays_open, tally, Tells, Surveyed}
-use Rattle.steps.specs.declared.survey.Survey.{Survey}
-use Rattle.steps.specs.declared.survey.Survey.TheVariants.{SomeTrue, NoneTrue}
+use Rattle.std.specs.Prelude.{Option, Some, None}
 use Rattle.steps.proofs.ForEachLaws.{same_for_each, for_each_nothing}
 use Rattle.steps.proofs.BlockLaws.{far_judging, far_same, full_judging, full_same, same_sum}
 use Rattle.steps.proofs.BoundsLaws.{made_at}
 use Rattle.steps.proofs.FarLaws.{far_one}
 use Rattle.steps.proofs.SurveyLaws.{tally_append, tally_parts, true_first, seen_few}
-use Rattle.steps.proofs.SurveyLaws.{told_none, told_true, each_of}
+use Rattle.steps.proofs.SurveyLaws.{each_of}
 
 -- ---- one row
 
 -- the same rules, written otherwise
-same_row : (P : ℕ) (F G : ℕ → List Rule) (s : Survey) → ((j : ℕ) → F j ≡ G j) → Surveyed (for_each 1 P F) s
+same_row : (P : ℕ) (F G : ℕ → List Rule) (s : Option ℕ) → ((j : ℕ) → F j ≡ G j) → Surveyed (for_each 1 P F) s
     → Surveyed (for_each 1 P G) s
 same_row P F G s same seen = subst (λ (l : List Rule). Surveyed l s) (same_for_each 1 P F G same) seen
 
-module _ {es bs : List ℤ} {n p x P : ℕ} (s : Survey) (upto : P ≤ most_period) (setting : InRange x) where
+module _ {es bs : List ℤ} {n p x P : ℕ} (s : Option ℕ) (upto : P ≤ most_period) (setting : InRange x) where
   pub far_row_seen : (u : Sum) → u ≡ number (pos 0)
       → ((a : Rule) → Judging es bs n p x u P a → Surveyed (for_each 1 P (each_of (λ j. at_sum true x u j a))) s)
       → (a : Rule) → RuleAt es bs n p a → Surveyed (for_each 1 P (fars x a)) s
@@ -59,9 +58,14 @@ module _ {es bs : List ℤ} {n p x P : ℕ} (s : Survey) (upto : P ≤ most_peri
 abbrev rows : ℕ → ℕ → Rule → ℕ → List Rule
 rows P x a i = for_each 1 P (fars x a) ++ for_each 1 P (λ j. take i (nears x a j))
 
-abbrev pub RowsSoFar : (es bs : List ℤ) (n p x P : ℕ) (places : List ℕ) (k i many : ℕ) → Type 0
-RowsSoFar es bs n p x P places k i many =
-    (a : Rule) → BodyBounds es bs n p x places k a → Surveyed (rows P x a i) (NoneTrue many)
+abbrev pub RowsSoFar : (es bs : List ℤ) (n p x P : ℕ) (places : List ℕ) (i many : ℕ) → Type 0
+RowsSoFar es bs n p x P places i many =
+    (a : Rule) → BodyBounds es bs n p x places a → Surveyed (rows P x a i) (Some many)
+
+-- what is found of the row of a bound, whose literal is at place q
+abbrev pub SeenRow : (es bs : List ℤ) (n p x P q : ℕ) (s : Option ℕ) → Type 0
+SeenRow es bs n p x P q s = (a : Rule) (bound : Sum) → RuleAt es bs n p a → BoundAt bs x q bound
+    → Surveyed (for_each 1 P (each_of (full_at x a bound))) s
 
 -- no bound: nothing
 no_bounds : (f : Rule → ℕ) (n : ℕ) → tally f (for_each 1 n (λ j. [])) ≡ 0
@@ -111,97 +115,90 @@ all_rows P x a i enough = ap (λ (l : List Rule). for_each 1 P (fars x a) ++ l)
     no_more : (j : ℕ) → length (nears x a j) ≤ i
     no_more j = omega (arith, enough, length-map (bounds x a) (λ b. body_at x (add b (number (pos j))) a))
 
-module _ {es bs : List ℤ} {n p x : ℕ} (P : ℕ) {places : List ℕ} {k : ℕ} where
+module _ {es bs : List ℤ} {n p x : ℕ} (P : ℕ) {places : List ℕ} where
   -- the far-left row
-  module _ {s : Survey} (seen : (a : Rule) → RuleAt es bs n p a → Surveyed (for_each 1 P (fars x a)) s) where
-    pub far_few : SomeBodyBounds es bs n p x places k → {many : ℕ} → s ≡ NoneTrue many → many ≤ P
-    far_few some is =
-        let row = for_each 1 P (fars x some.rule) in
-        omega (
-          arith,
-          seen_few row (told_none row is (seen some.rule some.body.there)),
-          length_for_each 1 1 P (fars x some.rule) (λ j. refl),
-        )
+  pub far_few : SomeBodyBounds es bs n p x places → {many : ℕ}
+      → ((a : Rule) → RuleAt es bs n p a → Surveyed (for_each 1 P (fars x a)) (Some many)) → many ≤ P
+  far_few some seen = omega (
+    arith,
+    seen_few (for_each 1 P (fars x some.rule)) (seen some.rule some.body.there),
+    length_for_each 1 1 P (fars x some.rule) (λ j. refl),
+  )
 
-    pub first_row : {many : ℕ} → s ≡ NoneTrue many → RowsSoFar es bs n p x P places k 0 many
-    unfolding Tells
-    first_row is a body =
-        let (none, opens) = (told_none (for_each 1 P (fars x a)) is (seen a body.there)).tells in record {
-          tells = (
-            omega (
-              arith,
-              none,
-              tally_append folds_true (for_each 1 P (fars x a)) (for_each 1 P (λ j. [])),
-              no_bounds folds_true P,
-            ),
-            omega (
-              arith,
-              opens,
-              tally_append stays_open (for_each 1 P (fars x a)) (for_each 1 P (λ j. [])),
-              no_bounds stays_open P,
-            ),
-          );
-        }
+  pub first_row : {many : ℕ}
+      → ((a : Rule) → RuleAt es bs n p a → Surveyed (for_each 1 P (fars x a)) (Some many))
+      → RowsSoFar es bs n p x P places 0 many
+  unfolding Tells
+  first_row seen a body =
+      let (none, opens) = (seen a body.there).tells in record {
+        tells = (
+          omega (
+            arith,
+            none,
+            tally_append folds_true (for_each 1 P (fars x a)) (for_each 1 P (λ j. [])),
+            no_bounds folds_true P,
+          ),
+          omega (
+            arith,
+            opens,
+            tally_append stays_open (for_each 1 P (fars x a)) (for_each 1 P (λ j. [])),
+            no_bounds stays_open P,
+          ),
+        );
+      }
 
-    pub far_true : s ≡ SomeTrue → (a : Rule) → BodyBounds es bs n p x places k a → Surveyed (disjuncts P x a) s
-    unfolding disjuncts
-    far_true is a body = told_true (for_each 1 P (fars x a)) (disjuncts P x a) is
-        (true_first (for_each 1 P (fars x a)) (for_each 1 P (nears x a))) (seen a body.there)
+  pub far_true : ((a : Rule) → RuleAt es bs n p a → Surveyed (for_each 1 P (fars x a)) None)
+      → (a : Rule) → BodyBounds es bs n p x places a → Surveyed (disjuncts P x a) None
+  unfolding disjuncts
+  far_true seen a body = true_first (for_each 1 P (fars x a)) (for_each 1 P (nears x a)) (seen a body.there)
 
-  pub every_row : (i many : ℕ) → k ≤ i → RowsSoFar es bs n p x P places k i many → (a : Rule)
-      → BodyBounds es bs n p x places k a → Surveyed (disjuncts P x a) (NoneTrue many)
-  every_row i many over done a body = subst (λ (l : List Rule). Surveyed l (NoneTrue many))
+  pub every_row : (i many : ℕ) → length places ≤ i → RowsSoFar es bs n p x P places i many → (a : Rule)
+      → BodyBounds es bs n p x places a → Surveyed (disjuncts P x a) (Some many)
+  every_row i many over done a body = subst (λ (l : List Rule). Surveyed l (Some many))
       (all_rows P x a i (omega (arith, over, body.bounds_at.as_many))) (done a body)
 
   -- the row of the next bound, bound i, whose literal is at place q
-  module _ {i q : ℕ} {s : Survey} (inside : i < k) (is_place : q ≡ get_or places i 0)
-      (seen : (a : Rule) (bound : Sum) → RuleAt es bs n p a → BoundAt bs x q bound
-      → Surveyed (for_each 1 P (each_of (full_at x a bound))) s) where
-    row_seen : (a : Rule) → BodyBounds es bs n p x places k a
+  module _ {i q : ℕ} (inside : i < length places) (is_place : q ≡ get_or places i 0) where
+    row_seen : {s : Option ℕ} → SeenRow es bs n p x P q s → (a : Rule) → BodyBounds es bs n p x places a
         → Surveyed (for_each 1 P (each_of (full_at x a (get_or (bounds x a) i [])))) s
-    row_seen a body =
+    row_seen seen a body =
         let bound = get_or (bounds x a) i [] in
         let at = subst (λ (r : ℕ). BoundAt bs x r bound) (sym is_place) (body.bounds_at.each i inside) in
         seen a bound body.there at
 
-    pub row_few : SomeBodyBounds es bs n p x places k → {more : ℕ} → s ≡ NoneTrue more → more ≤ P
-    row_few some is =
+    pub row_few : SomeBodyBounds es bs n p x places → {more : ℕ} → SeenRow es bs n p x P q (Some more) → more ≤ P
+    row_few some seen =
         let F = each_of (full_at x some.rule (get_or (bounds x some.rule) i [])) in
-        let row = for_each 1 P F in
         omega (
           arith,
-          seen_few row (told_none row is (row_seen some.rule some.body)),
+          seen_few (for_each 1 P F) (row_seen seen some.rule some.body),
           length_for_each 1 1 P F (λ j. refl),
         )
 
-    pub one_row_more : {many more : ℕ} → s ≡ NoneTrue more → RowsSoFar es bs n p x P places k i many
-        → RowsSoFar es bs n p x P places k (i + 1) (many + more)
+    pub one_row_more : {many more : ℕ} → SeenRow es bs n p x P q (Some more) → RowsSoFar es bs n p x P places i many
+        → RowsSoFar es bs n p x P places (i + 1) (many + more)
     unfolding Tells
-    one_row_more {many} {more} is done a body =
-        let row = for_each 1 P (each_of (full_at x a (get_or (bounds x a) i []))) in
+    one_row_more {many} {more} seen done a body =
         let short : i < length (bounds x a) = omega (arith, inside, body.bounds_at.as_many) in
         let next : suc i ≡ i + 1 = omega arith in
         let (none, opens) = (done a body).tells in
-        let (none_there, opens_there) = (told_none row is (row_seen a body)).tells in
-        subst (λ (m : ℕ). Surveyed (rows P x a m) (NoneTrue (many + more))) next (record {
+        let (none_there, opens_there) = (row_seen seen a body).tells in
+        subst (λ (m : ℕ). Surveyed (rows P x a m) (Some (many + more))) next (record {
           tells = (
             omega (arith, none, none_there, row_more folds_true P x a i short),
             omega (arith, opens, opens_there, row_more stays_open P x a i short),
           );
         })
 
-    pub row_true : s ≡ SomeTrue → (a : Rule) → BodyBounds es bs n p x places k a → Surveyed (disjuncts P x a) s
+    pub row_true : SeenRow es bs n p x P q None → (a : Rule) → BodyBounds es bs n p x places a → Surveyed
+        (disjuncts P x a) None
     unfolding Tells
-    row_true is a body =
-        let row = for_each 1 P (each_of (full_at x a (get_or (bounds x a) i []))) in
-        let short : i < length (bounds x a) = omega (arith, inside, body.bounds_at.as_many) in
-        told_true row (disjuncts P x a) is
-        (λ row_true. record {
+    row_true seen a body =
+        let short : i < length (bounds x a) = omega (arith, inside, body.bounds_at.as_many) in record {
           tells = omega (
             arith,
-            row_true.tells,
+            (row_seen seen a body).tells,
             row_more folds_true P x a i short,
             rows_after folds_true P x a (suc i),
           );
-        })
-        (row_seen a body)
+        }

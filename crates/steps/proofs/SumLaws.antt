@@ -30,7 +30,7 @@ use Rattle.bodies.proofs.LiteralWords.{sum_word}
 use Rattle.literals.specs.Rows.{most_put}
 use Rattle.literals.proofs.Sizes.{size_add}
 use Rattle.literals.specs.Changes.{InRange, Usable, Fair}
-use Rattle.literals.specs.declared.change.Change.TheVariants.{Far, Full}
+use Rattle.literals.specs.Changes.{Far, Full}
 
 -- ---- sizes
 

@@ -1,7 +1,7 @@
 -- Rules are surveyed part by part: the tallies of the parts add up.
 -- Assumes nothing.
 use mathlib.Core.Path.{◌≡◌, refl, sym, ◌∙◌, ap, subst}
-use mathlib.Core.Bool.{Bool, true, false, cond}
+use mathlib.Core.Bool.{Bool, true, false, not}
 use mathlib.Core.List.{List, [], ◌∷◌, ◌++◌}
 use Prim.Native.Nat.{ℕ, zero, suc, ◌+◌, ◌-◌, ◌<◌, ◌≤◌}
 use native.Mathlib.Omega.{arith}
@@ -17,8 +17,8 @@ use Rattle.rules.proofs.Disjuncts.{length_for_each}
 use Rattle.judging.specs.Judging.{bit, settled_as, Says, at_sum, Judging, SomeJudging}
 use Rattle.steps.specs.Blocks.{Judges}
 use Rattle.steps.specs.Surveying.{folds_true, stays_open, tally, Tells, Surveyed}
-use Rattle.steps.specs.declared.survey.Survey.{Survey}
-use Rattle.steps.specs.declared.survey.Survey.TheVariants.{SomeTrue, NoneTrue}
+use Rattle.std.specs.Prelude.{Option, Some, None}
+use Rattle.std.specs.Int.{from_bool}
 use Rattle.steps.proofs.BlockLaws.{bit_told}
 use Rattle.steps.proofs.ForEachLaws.{for_each_parts}
 
@@ -50,12 +50,12 @@ few_open (d ∷ l) = omega (arith, few_open l)
 
 -- ---- parts
 
-pub none_seen : Surveyed [] (NoneTrue 0)
+pub none_seen : Surveyed [] (Some 0)
 unfolding Tells tally
 none_seen = record { tells = (refl, refl) }
 
-both_seen : (k l : List Rule) (m n : ℕ) → Surveyed k (NoneTrue m) → Surveyed l (NoneTrue n)
-    → Surveyed (k ++ l) (NoneTrue (m + n))
+both_seen : (k l : List Rule) (m n : ℕ) → Surveyed k (Some m) → Surveyed l (Some n)
+    → Surveyed (k ++ l) (Some (m + n))
 unfolding Tells
 both_seen k l m n first second = record {
   tells = (
@@ -64,42 +64,38 @@ both_seen k l m n first second = record {
   );
 }
 
-pub true_first : (k l : List Rule) → Surveyed k SomeTrue → Surveyed (k ++ l) SomeTrue
+pub true_first : (k l : List Rule) → Surveyed k None → Surveyed (k ++ l) None
 unfolding Tells
 true_first k l seen = record { tells = omega (arith, tally_append folds_true k l, seen.tells) }
 
-true_last : (k l : List Rule) → Surveyed l SomeTrue → Surveyed (k ++ l) SomeTrue
+true_last : (k l : List Rule) → Surveyed l None → Surveyed (k ++ l) None
 unfolding Tells
 true_last k l seen = record { tells = omega (arith, tally_append folds_true k l, seen.tells) }
 
-pub seen_few : (l : List Rule) {n : ℕ} → Surveyed l (NoneTrue n) → n ≤ length l
+pub seen_few : (l : List Rule) {n : ℕ} → Surveyed l (Some n) → n ≤ length l
 unfolding Tells
 seen_few l seen = omega (arith, seen.tells.1, few_open l)
 
 -- as it is told
-pub told_none : (l : List Rule) {s : Survey} {n : ℕ} → s ≡ NoneTrue n → Surveyed l s → Surveyed l (NoneTrue n)
+pub told_none : (l : List Rule) {s : Option ℕ} {n : ℕ} → s ≡ Some n → Surveyed l s → Surveyed l (Some n)
 told_none l e seen = subst (Surveyed l) e seen
-
-pub told_true : (k l : List Rule) {s : Survey} → s ≡ SomeTrue → (Surveyed k SomeTrue → Surveyed l SomeTrue)
-    → Surveyed k s → Surveyed l s
-told_true k l e f seen = subst (Surveyed l) (sym e) (f (subst (Surveyed k) e seen))
 
 -- one after the other: the rules of m numbers from `from` on, and of w more
 module _ (F : ℕ → List Rule) (from m w : ℕ) where
-  pub more_seen : {o q : ℕ} → Surveyed (for_each from m F) (NoneTrue o)
-      → Surveyed (for_each (from + m) w F) (NoneTrue q) → Surveyed (for_each from (m + w) F) (NoneTrue (o + q))
+  pub more_seen : {o q : ℕ} → Surveyed (for_each from m F) (Some o)
+      → Surveyed (for_each (from + m) w F) (Some q) → Surveyed (for_each from (m + w) F) (Some (o + q))
   more_seen {o} {q} first second =
-      subst (λ (l : List Rule). Surveyed l (NoneTrue (o + q))) (sym (for_each_parts from m w F))
+      subst (λ (l : List Rule). Surveyed l (Some (o + q))) (sym (for_each_parts from m w F))
       (both_seen (for_each from m F) (for_each (from + m) w F) o q first second)
 
-  pub true_among : (n : ℕ) → m + w ≤ n → Surveyed (for_each (from + m) w F) SomeTrue
-      → Surveyed (for_each from n F) SomeTrue
+  pub true_among : (n : ℕ) → m + w ≤ n → Surveyed (for_each (from + m) w F) None
+      → Surveyed (for_each from n F) None
   true_among n inside seen =
       let all : m + w + (n - (m + w)) ≡ n = omega arith in
-      subst (λ (i : ℕ). Surveyed (for_each from i F) SomeTrue) all
-      (subst (λ (l : List Rule). Surveyed l SomeTrue) (sym (for_each_parts from (m + w) (n - (m + w)) F))
+      subst (λ (i : ℕ). Surveyed (for_each from i F) None) all
+      (subst (λ (l : List Rule). Surveyed l None) (sym (for_each_parts from (m + w) (n - (m + w)) F))
       (true_first (for_each from (m + w) F) (for_each (from + (m + w)) (n - (m + w)) F)
-      (subst (λ (l : List Rule). Surveyed l SomeTrue) (sym (for_each_parts from m w F))
+      (subst (λ (l : List Rule). Surveyed l None) (sym (for_each_parts from m w F))
       (true_last (for_each from m F) (for_each (from + m) w F) seen))))
 
 -- ---- a block, bit by bit
@@ -110,7 +106,7 @@ each_of d i = d i ∷ []
 
 abbrev pub BlockSoFar : (trues falses k many : ℕ) → Type 0
 BlockSoFar trues falses k many = (j : ℕ) (d : ℕ → Rule) → Judges trues falses j d
-    → Surveyed (for_each j k (each_of d)) (NoneTrue many)
+    → Surveyed (for_each j k (each_of d)) (Some many)
 
 pub no_bit_yet : (trues falses : ℕ) → BlockSoFar trues falses 0 0
 unfolding for_each
@@ -118,7 +114,8 @@ no_bit_yet trues falses j d judges = none_seen
 
 -- what one bit says
 unsettled : (f : Rule) → eqb (settled_as true f) 1 ≡ false
-    → (settled_as true f ≡ 0) × (cond (eqb (settled_as false f) 1) 0 1 ≡ 1 - settled_as true f - settled_as false f)
+    → (settled_as true f ≡ 0)
+    × (from_bool (not (eqb (settled_as false f) 1)) ≡ 1 - settled_as true f - settled_as false f)
 unfolding settled_as
 unsettled (Constant true) e = absurd (eqb-false 1 1 e refl)
 unsettled (Constant false) e = (refl, refl)
@@ -129,29 +126,33 @@ unsettled (Bind q v a) e = (refl, refl)
 
 module _ (trues falses k : ℕ) (d : Rule) (says : Says trues falses k d) where
   one_seen : {is_true is_false : Bool} {n : ℕ} → is_true ≡ eqb (bit trues k) 1 → is_true ≡ false
-      → is_false ≡ eqb (bit falses k) 1 → n ≡ cond is_false 0 1 → Surveyed (d ∷ []) (NoneTrue n)
+      → is_false ≡ eqb (bit falses k) 1 → n ≡ from_bool (not is_false) → Surveyed (d ∷ []) (Some n)
   unfolding Tells tally
   one_seen {n = n} told none told_false counts =
       let f = fold d in
       let (no_true, opens) = unsettled f (ap (λ (b : ℕ). eqb b 1) (sym says.is_yes) ∙ sym told ∙ none) in
-      let here : n ≡ 1 - settled_as true f - settled_as false f =
-      counts ∙ ap (λ (b : Bool). cond b 0 1) (told_false ∙ ap (λ (b : ℕ). eqb b 1) says.is_no) ∙ opens in
+      let here : n ≡ 1 - settled_as true f - settled_as false f = counts
+      ∙ ap (λ (b : Bool). from_bool (not b)) (told_false ∙ ap (λ (b : ℕ). eqb b 1) says.is_no) ∙ opens in
       record { tells = (omega (arith, no_true), omega (arith, here)) }
 
-  one_true : {is_true : Bool} → is_true ≡ eqb (bit trues k) 1 → is_true ≡ true → Surveyed (d ∷ []) SomeTrue
+  one_true : {is_true : Bool} → is_true ≡ eqb (bit trues k) 1 → is_true ≡ true → Surveyed (d ∷ []) None
   unfolding Tells tally
   one_true told e = record { tells = omega (arith, says.is_yes, bit_told trues k told e) }
 
+pub one_at_most : (b : Bool) {n : ℕ} → n ≡ from_bool b → n ≤ 1
+one_at_most true e = omega (arith, e)
+one_at_most false e = omega (arith, e)
+
 module _ (trues falses k : ℕ) (inside : k < 64) where
   pub one_bit_more : {many n : ℕ} {is_true is_false : Bool} → is_true ≡ eqb (bit trues k) 1 → is_true ≡ false
-      → is_false ≡ eqb (bit falses k) 1 → n ≡ cond is_false 0 1 → BlockSoFar trues falses k many
+      → is_false ≡ eqb (bit falses k) 1 → n ≡ from_bool (not is_false) → BlockSoFar trues falses k many
       → BlockSoFar trues falses (k + 1) (many + n)
   unfolding for_each
   one_bit_more told none told_false counts done j d judges = more_seen (each_of d) j k 1 (done j d judges)
       (one_seen trues falses k (d (j + k)) (judges k inside) told none told_false counts)
 
   pub bit_true : (n : ℕ) {is_true : Bool} → k < n → is_true ≡ eqb (bit trues k) 1 → is_true ≡ true
-      → (j : ℕ) (d : ℕ → Rule) → Judges trues falses j d → Surveyed (for_each j n (each_of d)) SomeTrue
+      → (j : ℕ) (d : ℕ → Rule) → Judges trues falses j d → Surveyed (for_each j n (each_of d)) None
   unfolding for_each
   bit_true n among told e j d judges = true_among (each_of d) j k 1 n (omega arith)
       (one_true trues falses k (d (j + k)) (judges k inside) told e)
@@ -161,12 +162,16 @@ pub every_bit : (trues falses n k many : ℕ) → k ≤ n → n ≤ k → BlockS
 every_bit trues falses n k many few over done =
     let all : k ≡ n = omega arith in subst (λ (i : ℕ). BlockSoFar trues falses i many) all done
 
+-- what is found of a block of w
+abbrev pub SeenBlock : (trues falses w : ℕ) (s : Option ℕ) → Type 0
+SeenBlock trues falses w s = (j : ℕ) (d : ℕ → Rule) → Judges trues falses j d → Surveyed (for_each j w (each_of d)) s
+
 -- ---- a row, block by block, from the last to the first
 
 -- the j's up to `left` are still to come
 abbrev pub RowSoFar : (es bs : List ℤ) (n p : ℕ) (far : Bool) (x : ℕ) (u : Sum) (P left many : ℕ) → Type 0
 RowSoFar es bs n p far x u P left many = (a : Rule) → Judging es bs n p x u P a
-    → Surveyed (for_each (1 + left) (P - left) (each_of (λ j. at_sum far x u j a))) (NoneTrue many)
+    → Surveyed (for_each (1 + left) (P - left) (each_of (λ j. at_sum far x u j a))) (Some many)
 
 module _ {es bs : List ℤ} {n p x : ℕ} {u : Sum} {P : ℕ} where
   judging_at : {a : Rule} (j : ℕ) → j ≤ P → Judging es bs n p x u P a → Judging es bs n p x u j a
@@ -188,56 +193,53 @@ module _ {es bs : List ℤ} {n p : ℕ} (far : Bool) {x : ℕ} {u : Sum} {P : �
   unfolding for_each
   no_block_yet a judging =
       let none : 0 ≡ P - P = omega arith in
-      subst (λ (i : ℕ). Surveyed (for_each (1 + P) i (each_of (λ j. at_sum far x u j a))) (NoneTrue 0)) none none_seen
+      subst (λ (i : ℕ). Surveyed (for_each (1 + P) i (each_of (λ j. at_sum far x u j a))) (Some 0)) none none_seen
 
   pub every_block : (left many : ℕ) → left ≤ 0 → RowSoFar es bs n p far x u P left many → (a : Rule)
-      → Judging es bs n p x u P a → Surveyed (for_each 1 P (each_of (λ j. at_sum far x u j a))) (NoneTrue many)
+      → Judging es bs n p x u P a → Surveyed (for_each 1 P (each_of (λ j. at_sum far x u j a))) (Some many)
   every_block left many over done a judging =
       let F = each_of (λ j. at_sum far x u j a) in
       let first : 1 + left ≡ 1 = omega arith in
       let all : P - left ≡ P = omega arith in
-      subst (λ (i : ℕ). Surveyed (for_each i P F) (NoneTrue many)) first
-      (subst (λ (i : ℕ). Surveyed (for_each (1 + left) i F) (NoneTrue many)) all (done a judging))
+      subst (λ (i : ℕ). Surveyed (for_each i P F) (Some many)) first
+      (subst (λ (i : ℕ). Surveyed (for_each (1 + left) i F) (Some many)) all (done a judging))
 
-  -- the block of the w last j's that are left, with its masks and its survey
-  module _ (left w trues falses : ℕ) {s : Survey} (upto : left ≤ P) (some_j : 0 < w) (wide : w ≤ left)
-      (says : (a : Rule) (k : ℕ) → Judging es bs n p x u (left - w + 1) a → k < 64
-      → Says trues falses k (at_sum far x u (left - w + 1 + k) a))
-      (surveys : (j : ℕ) (d : ℕ → Rule) → Judges trues falses j d → Surveyed (for_each j w (each_of d)) s) where
-    block_seen : (a : Rule) → Judging es bs n p x u P a
-        → Surveyed (for_each (1 + (left - w)) w (each_of (λ j. at_sum far x u j a))) s
-    block_seen a judging =
-        let next : left - w + 1 ≡ 1 + (left - w) = omega arith in
-        subst (λ (i : ℕ). Surveyed (for_each i w (each_of (λ j. at_sum far x u j a))) s) next
-        (surveys (left - w + 1) (λ j. at_sum far x u j a)
-        (λ k inside. says a k (judging_at (left - w + 1) (omega arith) judging) inside))
+  -- the block of the last j's that are left, those over `low`, with its masks
+  module _ (left low trues falses : ℕ) (upto : left ≤ P) (some_j : low < left)
+      (says : (a : Rule) (k : ℕ) → Judging es bs n p x u (low + 1) a → k < 64
+      → Says trues falses k (at_sum far x u (low + 1 + k) a)) where
+    block_seen : {s : Option ℕ} → SeenBlock trues falses (left - low) s → (a : Rule) → Judging es bs n p x u P a
+        → Surveyed (for_each (1 + low) (left - low) (each_of (λ j. at_sum far x u j a))) s
+    block_seen {s} surveys a judging =
+        let next : low + 1 ≡ 1 + low = omega arith in
+        subst (λ (i : ℕ). Surveyed (for_each i (left - low) (each_of (λ j. at_sum far x u j a))) s) next
+        (surveys (low + 1) (λ j. at_sum far x u j a)
+        (λ k inside. says a k (judging_at (low + 1) (omega arith) judging) inside))
 
-    pub block_few : SomeJudging es bs n p x u P → {more : ℕ} → s ≡ NoneTrue more → more ≤ w
-    block_few some is =
+    pub block_few : {more : ℕ} → SeenBlock trues falses (left - low) (Some more) → SomeJudging es bs n p x u P
+        → more ≤ left - low
+    block_few surveys some =
         let F = each_of (λ j. at_sum far x u j some.rule) in
-        let row = for_each (1 + (left - w)) w F in
         omega (
           arith,
-          seen_few row (told_none row is (block_seen some.rule some.judging)),
-          length_for_each 1 (1 + (left - w)) w F (λ j. refl),
+          seen_few (for_each (1 + low) (left - low) F) (block_seen surveys some.rule some.judging),
+          length_for_each 1 (1 + low) (left - low) F (λ j. refl),
         )
 
-    pub one_block_more : {many more : ℕ} → s ≡ NoneTrue more → RowSoFar es bs n p far x u P left many
-        → RowSoFar es bs n p far x u P (left - w) (many + more)
-    one_block_more {many} {more} is done a judging =
+    pub one_block_more : {many more : ℕ} → SeenBlock trues falses (left - low) (Some more)
+        → RowSoFar es bs n p far x u P left many → RowSoFar es bs n p far x u P low (many + more)
+    one_block_more {many} {more} surveys done a judging =
         let F = each_of (λ j. at_sum far x u j a) in
-        let low = left - w in
-        let meets : 1 + left ≡ 1 + low + w = omega arith in
-        let both : w + (P - left) ≡ P - low = omega arith in
+        let meets : 1 + left ≡ 1 + low + (left - low) = omega arith in
+        let both : left - low + (P - left) ≡ P - low = omega arith in
         let sum : more + many ≡ many + more = omega arith in
-        subst (λ (o : ℕ). Surveyed (for_each (1 + low) (P - low) F) (NoneTrue o)) sum
-        (subst (λ (i : ℕ). Surveyed (for_each (1 + low) i F) (NoneTrue (more + many))) both
-        (more_seen F (1 + low) w (P - left) (told_none (for_each (1 + low) w F) is (block_seen a judging))
-        (subst (λ (i : ℕ). Surveyed (for_each i (P - left) F) (NoneTrue many)) meets (done a judging))))
+        subst (λ (o : ℕ). Surveyed (for_each (1 + low) (P - low) F) (Some o)) sum
+        (subst (λ (i : ℕ). Surveyed (for_each (1 + low) i F) (Some (more + many))) both
+        (more_seen F (1 + low) (left - low) (P - left) (block_seen surveys a judging)
+        (subst (λ (i : ℕ). Surveyed (for_each i (P - left) F) (Some many)) meets (done a judging))))
 
-    pub block_true : s ≡ SomeTrue → (a : Rule) → Judging es bs n p x u P a
-        → Surveyed (for_each 1 P (each_of (λ j. at_sum far x u j a))) s
-    block_true is a judging =
-        let F = each_of (λ j. at_sum far x u j a) in
-        told_true (for_each (1 + (left - w)) w F) (for_each 1 P F) is (true_among F 1 (left - w) w P (omega arith))
-        (block_seen a judging)
+    pub block_true : SeenBlock trues falses (left - low) None → (a : Rule) → Judging es bs n p x u P a
+        → Surveyed (for_each 1 P (each_of (λ j. at_sum far x u j a))) None
+    block_true surveys a judging =
+        true_among (each_of (λ j. at_sum far x u j a)) 1 low (left - low) P (omega arith)
+        (block_seen surveys a judging)

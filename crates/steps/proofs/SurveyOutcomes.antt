@@ -13,7 +13,7 @@ use Rattle.rules.proofs.Folding.{Open, join_open}
 use Rattle.rules.proofs.Disjuncts.{fold_any, true_beats}
 use Rattle.judging.specs.Judging.{settled_as}
 use Rattle.steps.specs.Surveying.{folds_true, stays_open, tally, Tells, Surveyed}
-use Rattle.steps.specs.declared.survey.Survey.TheVariants.{SomeTrue, NoneTrue}
+use Rattle.std.specs.Prelude.{Some, None}
 
 -- ---- one folds to true
 
@@ -31,7 +31,7 @@ some_true (d ∷ l) some = by (fold d) refl some (some_true l)
     by (Literal t s) e some rest = true_beats (d ∷ []) l (rest (omega (arith, some)))
     by (Bind q v a) e some rest = true_beats (d ∷ []) l (rest (omega (arith, some)))
 
-pub folds_to_true : (l : List Rule) → Surveyed l SomeTrue → fold_any l ≡ True
+pub folds_to_true : (l : List Rule) → Surveyed l None → fold_any l ≡ True
 unfolding Tells
 folds_to_true l seen = some_true l seen.tells
 
@@ -80,7 +80,7 @@ folds [] e = unfold Folds in refl
 folds (d ∷ l) e =
     one_more (fold d) (fold_any l) (tally stays_open l) _ (omega (arith, e)) refl (folds l (omega (arith, e)))
 
-module _ (l : List Rule) {n : ℕ} (seen : Surveyed l (NoneTrue n)) where
+module _ (l : List Rule) {n : ℕ} (seen : Surveyed l (Some n)) where
   as_many : Folds n (fold_any l)
   unfolding Tells
   as_many = subst (λ (m : ℕ). Folds m (fold_any l)) (sym seen.tells.1) (folds l seen.tells.0)

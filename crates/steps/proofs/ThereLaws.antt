@@ -8,7 +8,7 @@ use native.Mathlib.Omega.{arith}
 use lib.Dec.{T}
 use lib.IntN.{ℤ, pos}
 use lib.ListN.{length}
-use Rattle.rules.specs.Sum.{Sum, number, all_within}
+use Rattle.rules.specs.Sum.{number, all_within}
 use Rattle.rules.specs.Rule.{Rule}
 use Rattle.rules.specs.Table.{Node, most_words}
 use Rattle.rules.specs.Fold.{fold}
@@ -27,8 +27,8 @@ use Rattle.folding.specs.declared.answers.Folded.{Folded}
 use Rattle.literals.specs.Changes.{becomes, Fair, Usable}
 use Rattle.walks.specs.Walk.{changed, Ready}
 use Rattle.tables.specs.Standing.{RuleAt}
-use Rattle.literals.specs.declared.change.Change.{Change}
-use Rattle.literals.specs.declared.change.Change.TheVariants.{Same}
+use Rattle.literals.specs.Changes.{Change}
+use Rattle.literals.specs.Changes.{Same}
 
 pub table_words : {es bs : List ℤ} {n p : ℕ} {r : Rule} → RuleAt es bs n p r → weight r ≤ most_words
 table_words {r = r} there = omega (arith, inside_bodies r there.stands, there.few.few_words)
@@ -37,31 +37,31 @@ table_words {r = r} there = omega (arith, inside_bodies r there.stands, there.fe
 pub same_room : (l m : List ℕ) → length m ≡ length l → length (words l) ≤ most_words → length (words m) ≤ most_words
 same_room l m kept room = omega (arith, room, words_length m, words_length l, kept)
 
--- a change that puts in no sum can be made with zeros
-pub zeros_usable : (c : Change) (u : Sum) → u ≡ number (pos 0) → Fair c → Usable c u
+-- a change that puts in no sum can be made
+pub zeros_usable : (c : Change) → Fair c → Usable c (number (pos 0))
 unfolding all_within
-zeros_usable c u e fair = subst (Usable c) (sym e) (record { seven = refl; small = tt; fair = fair })
+zeros_usable c fair = record { seven = refl; small = tt; fair = fair }
 
 -- ---- folded as it is
 
-pub unchanged : (u : Sum) (r : Rule) → changed Same u r ≡ r
+pub unchanged : (r : Rule) → changed Same (number (pos 0)) r ≡ r
 unfolding changed map_literals becomes
-unchanged u r = same_body r
+unchanged r = same_body r
 
-module _ {es bs : List ℤ} {n p : ℕ} {ws : List ℤ} {b : State} {r : Rule} {ds : List Node} {u : Sum}
-    (zeros : u ≡ number (pos 0)) (there : RuleAt es bs n p r) (built : Built ws b ds)
-    (small : total ds + weight r + 1 < most_counted) (room : length ws ≤ most_words) where
-  pub same_ready : Ready es bs n p Same u ws b r ds
+module _ {es bs : List ℤ} {n p : ℕ} {ws : List ℤ} {b : State} {r : Rule} {ds : List Node} (there : RuleAt es bs n p r)
+    (built : Built ws b ds) (small : total ds + weight r + 1 < most_counted) (room : length ws ≤ most_words) where
+  pub same_ready : Ready es bs n p Same (number (pos 0)) ws b r ds
   unfolding Fair
   same_ready = record {
     at = there;
-    usable = zeros_usable Same u zeros tt;
-    numbers = subst (λ (s : Rule). T (not (some_literal over_limit s))) (sym (unchanged u r))
+    usable = zeros_usable Same tt;
+    numbers = subst (λ (s : Rule). T (not (some_literal over_limit s))) (sym (unchanged r))
         (within_table r there.formed);
     building = record { built = built; small = omega (arith, small); room = room };
   }
 
   pub same_gives : (vs : List ℤ) (f : Folded)
-      → ((s : Rule) (l : List Node) → Ready es bs n p Same u ws b s l → Gives vs b l (fold (changed Same u s)) f)
+      → ((s : Rule) (l : List Node) → Ready es bs n p Same (number (pos 0)) ws b s l
+      → Gives vs b l (fold (changed Same (number (pos 0)) s)) f)
       → Gives vs b ds (fold r) f
-  same_gives vs f walk = subst (λ (s : Rule). Gives vs b ds (fold s) f) (unchanged u r) (walk r ds same_ready)
+  same_gives vs f walk = subst (λ (s : Rule). Gives vs b ds (fold s) f) (unchanged r) (walk r ds same_ready)

@@ -1,26 +1,25 @@
 -- A block: up to 64 values of j, at which a body is judged at once.
 -- Assumes nothing.
-use Rattle.std.specs.Prelude.{◌≡◌, List, [], ℕ, ◌+◌, ◌<◌, ℤ, pos, get_or}
+use Rattle.std.specs.Prelude.{◌≡◌, List, [], ℕ, ◌+◌, ◌<◌, ℤ, pos, length, get_or}
 use Rattle.rules.specs.Sum.{Sum, add, number}
 use Rattle.rules.specs.Rule.{Rule, False}
 use Rattle.rules.specs.Fold.{fold}
 use Rattle.rules.specs.Steps.{bounds}
 use Rattle.bodies.specs.Body.{BoundsAt}
-use Rattle.literals.specs.Changes.{InRange}
+use Rattle.literals.specs.Changes.{Far, Full, InRange}
 use Rattle.walks.specs.Walk.{changed}
 use Rattle.judging.specs.Judging.{bit, Says}
 use Rattle.tables.specs.Standing.{RuleAt}
-use Rattle.literals.specs.declared.change.Change.TheVariants.{Far, Full}
 
--- a body stands there, with the places of the literals that give its k bounds
-pub record BodyBounds (es bs : List ℤ) (n p x : ℕ) (places : List ℕ) (k : ℕ) (a : Rule) : Type 0 where
+-- a body stands there, with the places of the literals that give its bounds
+pub record BodyBounds (es bs : List ℤ) (n p x : ℕ) (places : List ℕ) (a : Rule) : Type 0 where
   pub there : RuleAt es bs n p a
   pub setting : InRange x
-  pub bounds_at : BoundsAt bs x places k (bounds x a)
+  pub bounds_at : BoundsAt bs x places (length places) (bounds x a)
 
-pub record SomeBodyBounds (es bs : List ℤ) (n p x : ℕ) (places : List ℕ) (k : ℕ) : Type 0 where
+pub record SomeBodyBounds (es bs : List ℤ) (n p x : ℕ) (places : List ℕ) : Type 0 where
   pub rule : Rule
-  pub body : BodyBounds es bs n p x places k rule
+  pub body : BodyBounds es bs n p x places rule
 
 -- the far-left body at x = j, and the full one at x = b+j
 abbrev pub far_at : ℕ → Rule → ℕ → Rule

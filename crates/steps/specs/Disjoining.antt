@@ -1,7 +1,7 @@
 -- What step 3 asks for: a body stands there with its lower bounds, and its disjuncts can be put.
 -- Assumes nothing.
-use Rattle.std.specs.Prelude.{◌≡◌, Bool, true, not, List, [], ◌++◌, ℕ, suc, ◌+◌, ◌-◌, ◌<◌, ◌≤◌, T, ℤ, pos, length, get_or}
-use Rattle.rules.specs.Sum.{Sum, add, number}
+use Rattle.std.specs.Prelude.{◌≡◌, not, List, [], ◌++◌, ℕ, suc, ◌+◌, ◌-◌, ◌<◌, ◌≤◌, T, ℤ, length, get_or}
+use Rattle.rules.specs.Sum.{Sum}
 use Rattle.rules.specs.Rule.{Rule, False}
 use Rattle.rules.specs.Table.{Node, most_words}
 use Rattle.rules.specs.Fold.{fold}
@@ -14,15 +14,13 @@ use Rattle.builder.specs.Built.{most_counted}
 use Rattle.builder.specs.declared.push.State.{State}
 use Rattle.folding.specs.Answers.{Gives}
 use Rattle.folding.specs.declared.answers.Folded.{Folded}
-use Rattle.bodies.specs.Body.{BoundAt, BoundsAt}
-use Rattle.literals.specs.Changes.{InRange, Usable}
+use Rattle.bodies.specs.Body.{BoundsAt}
+use Rattle.literals.specs.Changes.{Change, InRange, Usable}
 use Rattle.walks.specs.Walk.{changed}
 use Rattle.judging.specs.Judging.{bit}
 use Rattle.tables.specs.Standing.{RuleAt}
 use Rattle.steps.specs.There.{most_made, BuildsOn}
 use Rattle.steps.specs.Blocks.{far_at, full_at, FalseWhere, FalseAtBounds}
-use Rattle.literals.specs.declared.change.Change.{Change}
-use Rattle.literals.specs.declared.change.Change.TheVariants.{Far, Full}
 
 -- ---- one disjunct: the rules l are answered, and the body a, changed, is to be put in front of them
 
@@ -42,23 +40,6 @@ module _ (es bs : List ℤ) (n p : ℕ) (c : Change) (u : Sum) (ws : List ℤ) (
     pub tail : List Node
     pub disjunct : Disjunct rule others tail so_far
 
--- where it is told that a rule is false, it folds to false
-abbrev pub ToldFalse : Bool → Rule → Type 0
-ToldFalse told r = told ≡ true → fold r ≡ False
-
-module _ (es bs : List ℤ) (n p x j : ℕ) (told : Bool) (ws : List ℤ) (b : State) (so_far : Folded) where
-  -- its sum is j
-  pub record SomeFar : Type 0 where
-    pub some : SomeDisjunct es bs n p (Far x) (number (pos j)) ws b so_far
-    pub told_false : ToldFalse told (far_at x some.rule j)
-
-  -- its sum is a bound with j added, that of the literal at place q
-  pub record SomeFull (q : ℕ) : Type 0 where
-    pub bound : Sum
-    pub at : BoundAt bs x q bound
-    pub some : SomeDisjunct es bs n p (Full x) (add bound (number (pos j))) ws b so_far
-    pub told_false : ToldFalse told (full_at x some.rule bound j)
-
 -- ---- the disjuncts of the body a, which stands there and has the setting x
 
 -- a block: the j's over low, up to high
@@ -76,16 +57,16 @@ module _ (es bs : List ℤ) (n p x : ℕ) where
     pub few_bounds : length (bounds x a) ≤ 1365
     pub numbers : T (not (some_literal over_limit (disjunction P x a)))
 
-  pub record Disjoining (P : ℕ) (places : List ℕ) (k : ℕ) (ws : List ℤ) (b : State) (a : Rule) (ds : List Node)
+  pub record Disjoining (P : ℕ) (places : List ℕ) (ws : List ℤ) (b : State) (a : Rule) (ds : List Node)
       : Type 0 where
     pub of : Disjoinable P a
-    pub bounds_at : BoundsAt bs x places k (bounds x a)
+    pub bounds_at : BoundsAt bs x places (length places) (bounds x a)
     pub on : BuildsOn ws b ds
 
-  pub record SomeDisjoining (P : ℕ) (places : List ℕ) (k : ℕ) (ws : List ℤ) (b : State) : Type 0 where
+  pub record SomeDisjoining (P : ℕ) (places : List ℕ) (ws : List ℤ) (b : State) : Type 0 where
     pub rule : Rule
     pub tail : List Node
-    pub disjoining : Disjoining P places k ws b rule tail
+    pub disjoining : Disjoining P places ws b rule tail
 
   -- on the way: the last disjuncts l are answered, those before them are to come
   pub record Disjoined (P : ℕ) (ws : List ℤ) (b : State) (a : Rule) (before l : List Rule) (ds : List Node)
@@ -98,22 +79,23 @@ module _ (es bs : List ℤ) (n p x : ℕ) where
     pub room : length ws ≤ most_words
 
   -- the full bodies at x = b+j, one for each bound b, come next; bit m of the masks is for this j
-  pub record AtBounds (j m : ℕ) (places masks : List ℕ) (k : ℕ) (ws : List ℤ) (b : State) (P : ℕ) (a : Rule)
+  pub record AtBounds (j m : ℕ) (places masks : List ℕ) (ws : List ℤ) (b : State) (P : ℕ) (a : Rule)
       (before l : List Rule) (ds : List Node) (so_far : Folded) : Type 0 where
     pub disjoined : Disjoined P ws b a (before ++ nears x a j) l ds so_far
-    pub bounds_at : BoundsAt bs x places k (bounds x a)
+    pub bounds_at : BoundsAt bs x places (length places) (bounds x a)
     pub upto : j ≤ P
-    pub judged : (m < 64) × (k ≤ length masks)
-    pub falses : (i : ℕ) → i < k → bit (get_or masks i 0) m ≡ 1 → fold (full_at x a (get_or (bounds x a) i []) j) ≡ False
+    pub judged : (m < 64) × (length masks ≡ length places)
+    pub falses : (i : ℕ) → i < length places → bit (get_or masks i 0) m ≡ 1 → fold
+        (full_at x a (get_or (bounds x a) i []) j) ≡ False
 
-  pub record SomeAtBounds (j m : ℕ) (places masks : List ℕ) (k : ℕ) (ws : List ℤ) (b : State) (so_far : Folded)
+  pub record SomeAtBounds (j m : ℕ) (places masks : List ℕ) (ws : List ℤ) (b : State) (so_far : Folded)
       : Type 0 where
     pub period : ℕ
     pub rule : Rule
     pub before : List Rule
     pub others : List Rule
     pub tail : List Node
-    pub at_bounds : AtBounds j m places masks k ws b period rule before others tail so_far
+    pub at_bounds : AtBounds j m places masks ws b period rule before others tail so_far
 
   -- of the disjuncts that F makes of each j, those of the j's over this one are answered, in front of l
   abbrev pub FromJ : (P : ℕ) (b : State) (a : Rule) (first : List Rule) (F : ℕ → List Rule) (l : List Rule)
@@ -126,20 +108,20 @@ module _ (es bs : List ℤ) (n p x : ℕ) where
   FullFrom P ws b a ds j f = FromJ P b a (for_each 1 P (fars x a)) (nears x a) [] ds ws j f
 
   -- those of a block come next
-  pub record FullBlock (low high : ℕ) (places masks : List ℕ) (k : ℕ) (ws : List ℤ) (b : State) (P : ℕ) (a : Rule)
+  pub record FullBlock (low high : ℕ) (places masks : List ℕ) (ws : List ℤ) (b : State) (P : ℕ) (a : Rule)
       (ds : List Node) (so_far : Folded) : Type 0 where
     pub from : FullFrom P ws b a ds high so_far
     pub block : Block low high P
-    pub bounds_at : BoundsAt bs x places k (bounds x a)
-    pub long : k ≤ length masks
-    pub falses : FalseAtBounds masks x (low + 1) k a
+    pub bounds_at : BoundsAt bs x places (length places) (bounds x a)
+    pub long : length masks ≡ length places
+    pub falses : FalseAtBounds masks x (low + 1) (length places) a
 
-  pub record SomeFullBlock (low high : ℕ) (places masks : List ℕ) (k : ℕ) (ws : List ℤ) (b : State) (so_far : Folded)
+  pub record SomeFullBlock (low high : ℕ) (places masks : List ℕ) (ws : List ℤ) (b : State) (so_far : Folded)
       : Type 0 where
     pub period : ℕ
     pub rule : Rule
     pub tail : List Node
-    pub full_block : FullBlock low high places masks k ws b period rule tail so_far
+    pub full_block : FullBlock low high places masks ws b period rule tail so_far
 
   -- only the far-left bodies are to come
   abbrev pub FarToCome : (P : ℕ) (ws : List ℤ) (b : State) (a : Rule) (l : List Rule) (ds : List Node) (so_far : Folded)

@@ -1,7 +1,6 @@
 -- What a step puts in the place of the chosen quantifier, and what building that asks for.
 -- Assumes nothing.
-use Rattle.std.specs.Prelude.{◌≡◌, true, false, not, ◌⊎◌, List, ℕ, ◌+◌, ◌<◌, ◌≤◌, T, ℤ, pos, length, drop}
-use Rattle.rules.specs.Sum.{Sum, number}
+use Rattle.std.specs.Prelude.{◌≡◌, true, false, not, ◌⊎◌, List, ℕ, ◌+◌, ◌<◌, ◌≤◌, T, ℤ, length, drop}
 use Rattle.rules.specs.Rule.{Quantifier, Rule, Constant, Bind, Some}
 use Rattle.rules.specs.Table.{Node, most_words}
 use Rattle.rules.specs.Fold.{fold}
@@ -28,33 +27,32 @@ unfolding normal scaled disjunction
 new_of ForAll x a = by_some x a
 new_of NormalForm x a = Some x (normal true x a)
 new_of (CommonFactor D) x a = Some x (scaled D x a)
-new_of (Disjunction P k) x a = disjunction P x a
+new_of (Disjunction P places) x a = disjunction P x a
 new_of (Truth v) x a = Constant v
 
--- the step's own numbers: D and P are not refused, and the k bounds of the body, whose bodies are bs, are in their
--- places
-unfoldable pub FairStep : Step → List ℤ → List ℕ → ℕ → Rule → Type 0
-FairStep ForAll bs places x a = Unit {0}
-FairStep NormalForm bs places x a = Unit {0}
-FairStep (CommonFactor D) bs places x a = (1 ≤ D) × (D ≤ most_period)
-FairStep (Disjunction P k) bs places x a =
-    (1 ≤ P) × (P ≤ most_period) × (k ≤ 1365) × BoundsAt bs x places k (bounds x a)
-FairStep (Truth v) bs places x a = Unit {0}
+-- the step's own numbers: D and P are not refused, and the bounds of the body, whose bodies are bs, are in their places
+unfoldable pub FairStep : Step → List ℤ → ℕ → Rule → Type 0
+FairStep ForAll bs x a = Unit {0}
+FairStep NormalForm bs x a = Unit {0}
+FairStep (CommonFactor D) bs x a = (1 ≤ D) × (D ≤ most_period)
+FairStep (Disjunction P places) bs x a =
+    (1 ≤ P) × (P ≤ most_period) × (length places.now ≤ 1365)
+    × BoundsAt bs x places.now (length places.now) (bounds x a)
+FairStep (Truth v) bs x a = Unit {0}
 
 -- the new rule can be built: no number of it passes the limit, and its words can be counted
-pub record Makeable (step : Step) (bs : List ℤ) (places : List ℕ) (x : ℕ) (a : Rule) : Type 0 where
-  pub fair : FairStep step bs places x a
+pub record Makeable (step : Step) (bs : List ℤ) (x : ℕ) (a : Rule) : Type 0 where
+  pub fair : FairStep step bs x a
   pub numbers : T (not (some_literal over_limit (new_of step x a)))
   pub light : weight (fold (new_of step x a)) ≤ most_made
 
--- ---- of the quantifier, which starts the entries es and the bodies bs; `nothing` is a sum that is not put in
+-- ---- of the quantifier, which starts the entries es and the bodies bs
 
-module _ (es bs : List ℤ) (n p : ℕ) (step : Step) (places : List ℕ) (nothing : Sum) (ws : List ℤ) (b : State) where
+module _ (es bs : List ℤ) (n p : ℕ) (step : Step) (ws : List ℤ) (b : State) where
   pub record Making (q : Quantifier) (x : ℕ) (a : Rule) (ds : List Node) : Type 0 where
     pub there : RuleAt es bs n p (Bind q x a)
     pub free : QuantifierFree a
-    pub makeable : Makeable step (drop 2 bs) places x a
-    pub zeros : nothing ≡ number (pos 0)
+    pub makeable : Makeable step (drop 2 bs) x a
     pub on : BuildsOn ws b ds
 
   pub record SomeMaking : Type 0 where
@@ -80,25 +78,24 @@ module _ (es bs : List ℤ) (n p : ℕ) (step : Step) (x : ℕ) (ws : List ℤ) 
     pub making : BodyMaking rule tail
 
   -- and the step's own numbers are fair
-  pub record FairMaking (places : List ℕ) (a : Rule) (ds : List Node) : Type 0 where
+  pub record FairMaking (a : Rule) (ds : List Node) : Type 0 where
     pub making : BodyMaking a ds
-    pub fair : FairStep step bs places x a
+    pub fair : FairStep step bs x a
 
-  pub record SomeFairMaking (places : List ℕ) : Type 0 where
+  pub record SomeFairMaking : Type 0 where
     pub rule : Rule
     pub tail : List Node
-    pub fair_making : FairMaking places rule tail
+    pub fair_making : FairMaking rule tail
 
 -- ---- of what stands around it: it is node c
 
-module _ (es bs : List ℤ) (n p c : ℕ) (step : Step) (places : List ℕ) (nothing : Sum) (ws : List ℤ) (b : State) where
+module _ (es bs : List ℤ) (n p c : ℕ) (step : Step) (ws : List ℤ) (b : State) where
   -- the rule r stands there, and its chosen quantifier is that node
   pub record Around (r : Rule) (q : Quantifier) (x : ℕ) (a : Rule) (ds : List Node) : Type 0 where
     pub there : RuleAt es bs n p r
     pub at : chosen r ≡ the q x a
     pub number_is : c ≡ n + chosen_number r
-    pub makeable : Makeable step (drop (chosen_place r + 2) bs) places x a
-    pub zeros : nothing ≡ number (pos 0)
+    pub makeable : Makeable step (drop (chosen_place r + 2) bs) x a
     pub built : Built ws b ds
     pub small : total ds + weight r + most_made < most_counted
     pub room : length ws ≤ most_words
@@ -115,7 +112,7 @@ module _ (es bs : List ℤ) (n p c : ℕ) (step : Step) (places : List ℕ) (not
 abbrev pub Bare : ℕ → ℕ → Rule → Type 0
 Bare n c r = (n ≡ c) ⊎ (unary r ≡ false)
 
-pub record SomeBare (es bs : List ℤ) (n p c : ℕ) (step : Step) (places : List ℕ) (nothing : Sum) (ws : List ℤ)
+pub record SomeBare (es bs : List ℤ) (n p c : ℕ) (step : Step) (ws : List ℤ)
     (b : State) : Type 0 where
-  pub some : SomeAround es bs n p c step places nothing ws b
+  pub some : SomeAround es bs n p c step ws b
   pub bare : Bare n c some.rule

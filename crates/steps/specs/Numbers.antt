@@ -12,9 +12,9 @@ use Rattle.bodies.specs.Body.{BodyOf, BoundsAt}
 abbrev pub at_limit : Test → Sum → Bool
 at_limit t s = eqb (nat_abs (factor 0 s)) limit
 
-pub record SomeBounds (bs : List ℤ) (end x : ℕ) (places : List ℕ) (k : ℕ) : Type 0 where
+pub record SomeBounds (bs : List ℤ) (end x : ℕ) (places : List ℕ) : Type 0 where
   pub number : ℕ
   pub rule : Rule
   pub body : BodyOf bs end number rule
-  pub at : BoundsAt bs x places k (bounds x rule)
+  pub at : BoundsAt bs x places (length places) (bounds x rule)
   pub few : length bs ≤ most_words

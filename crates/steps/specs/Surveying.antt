@@ -1,11 +1,9 @@
 -- How many of some rules fold to true, and how many stay open.
 -- Assumes nothing.
-use Rattle.std.specs.Prelude.{◌≡◌, true, false, List, [], ◌∷◌, ℕ, ◌+◌, ◌-◌, ◌<◌}
+use Rattle.std.specs.Prelude.{◌≡◌, true, false, List, [], ◌∷◌, ℕ, ◌+◌, ◌-◌, ◌<◌, Option, Some, None}
 use Rattle.rules.specs.Rule.{Rule}
 use Rattle.rules.specs.Fold.{fold}
 use Rattle.judging.specs.Judging.{settled_as}
-use Rattle.steps.specs.declared.survey.Survey.{Survey}
-use Rattle.steps.specs.declared.survey.Survey.TheVariants.{SomeTrue, NoneTrue}
 
 -- 1 where the rule folds to true, and where it stays open, else 0
 abbrev pub folds_true : Rule → ℕ
@@ -19,10 +17,10 @@ unfoldable pub tally : (Rule → ℕ) → List Rule → ℕ
 tally f [] = 0
 tally f (d ∷ l) = f d + tally f l
 
--- what a survey tells of these two counts, and of some rules
-unfoldable pub Tells : ℕ → ℕ → Survey → Type 0
-Tells trues opens SomeTrue = 0 < trues
-Tells trues opens (NoneTrue n) = (trues ≡ 0) × (n ≡ opens)
+-- what a survey tells of these two counts, and of some rules: one folds to true, or none does, and so many stay open
+unfoldable pub Tells : ℕ → ℕ → Option ℕ → Type 0
+Tells trues opens None = 0 < trues
+Tells trues opens (Some n) = (trues ≡ 0) × (n ≡ opens)
 
-pub record Surveyed (l : List Rule) (s : Survey) : Type 0 where
+pub record Surveyed (l : List Rule) (s : Option ℕ) : Type 0 where
   pub tells : Tells (tally folds_true l) (tally stays_open l) s

@@ -3,9 +3,15 @@
 use Rattle.std.specs.Prelude.{List, ℕ, ℤ}
 use Rattle.rules.specs.Rule.{Rule}
 use Rattle.rules.specs.Table.{Node}
+use Rattle.rules.specs.Calls.{words}
+use Rattle.tables.specs.declared.part.Part.{Part}
 use Rattle.tables.specs.Standing.{RuleAt}
 use Rattle.builder.specs.Built.{Building}
 use Rattle.builder.specs.declared.push.State.{State}
+
+-- what is said of entries and bodies, whose first node has a number and a place, of a part of a table
+abbrev pub In : {X : Type 1} → (List ℤ → List ℤ → ℕ → ℕ → X) → Part → X
+In Is t = Is (words t.entries.now) (words t.bodies.now) t.node t.place
 
 -- a rule stands there, as node n at place p
 pub record SomeRuleThere (es bs : List ℤ) (n p : ℕ) : Type 0 where

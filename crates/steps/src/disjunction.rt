@@ -6,33 +6,29 @@ ghost use Rattle.rules.specs.Table.{Node};
 ghost use Rattle.rules.specs.Fold.{fold as fold_of};
 ghost use Rattle.rules.specs.Steps.{disjunction as disjunction_of};
 ghost use Rattle.rules.specs.Calls.{words};
+ghost use Rattle.steps.specs.There.{In};
 ghost use Rattle.folding.specs.Answers.{Gives};
 ghost use Rattle.steps.specs.Disjoining.{Disjoining, SomeDisjoining};
 
 use crate::{far, full};
 use builder::push::State;
 use folding::answers::Folded;
+use tables::part::Part;
 
-// All disjuncts, folded: `places` has the places of the k bounds' literals in the bodies.
+// All disjuncts, folded: `places` has the places of the bounds' literals in the bodies.
 pub fn disjunction(
-    entries: &[u8],
-    bodies: &[u8],
-    node: usize,
-    place: usize,
+    part: Part,
     x: usize,
     period: usize,
     places: &[u32],
-    k: usize,
     out: &mut [u8],
     b: State,
 ) -> Folded
-    requires { SomeDisjoining (words entries.now) (words bodies.now) node place x period places.now k
-        (words out.old) b }
+    requires { In SomeDisjoining part x period places.now (words out.old) b }
     ensures { (a : Rule) (ds : List Node)
-        → Disjoining (words entries.now) (words bodies.now) node place x period
-        places.now k (words out.old) b a ds
+        → In Disjoining part.entry x period places.now (words out.old) b a ds
         → Gives (words out.new) b ds (fold_of (disjunction_of period x a)) result }
 {
-    let full = full::full_bodies(entries, bodies, node, place, x, period, places, k, out, b);
-    far::far_bodies(entries, bodies, node, place, x, period, out, b, full)
+    let full = full::full_bodies(part, x, period, places, out, b);
+    far::far_bodies(part, x, period, out, b, full)
 }

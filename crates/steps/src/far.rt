@@ -6,21 +6,22 @@ ghost use Rattle.rules.specs.Table.{Node};
 ghost use Rattle.rules.specs.Fold.{fold as fold_of};
 ghost use Rattle.rules.specs.Steps.{disjunction as disjunction_of};
 ghost use Rattle.rules.specs.Calls.{words};
+ghost use Rattle.steps.specs.There.{In};
 ghost use Rattle.folding.specs.Answers.{Gives};
 ghost use Rattle.steps.specs.Disjoining.{FarToCome, SomeFarToCome};
 ghost use Rattle.steps.specs.Disjoining.{FarFrom, FarBlock, SomeFarBlock};
 
-use crate::{blocks, disjunct};
+use crate::{blocks, disjunct, sums};
 use builder::push::State;
 use folding::answers::Folded;
+use judging::judge;
+use literals::change::Change;
+use tables::part::Part;
 
 // The far-left bodies of one block, from that at x = high to that at x = low + 1. Its mask has a bit where one is
 // false.
 fn far_block(
-    entries: &[u8],
-    bodies: &[u8],
-    node: usize,
-    place: usize,
+    part: Part,
     x: usize,
     low: usize,
     high: usize,
@@ -29,51 +30,44 @@ fn far_block(
     b: State,
     others: Folded,
 ) -> Folded
-    requires { SomeFarBlock (words entries.now) (words bodies.now) node place x low high mask
-        (words out.old) b others }
+    requires { In SomeFarBlock part x low high mask (words out.old) b others }
     ensures { (P : ℕ) (a : Rule) (l : List Rule) (ds : List Node)
-        → FarBlock (words entries.now) (words bodies.now) node place x low high mask
-        (words out.old) b P a l ds others
-        → FarFrom (words entries.now) (words bodies.now) node place x P
-        (words out.new) b a l ds low result }
+        → In FarBlock part.entry x low high mask (words out.old) b P a l ds others
+        → In FarFrom part.entry x P (words out.new) b a l ds low result }
 {
-    let mut j = high;
     let mut f = others;
-    while low < j {
-        let told = blocks::has(mask, j - low - 1);
-        f = disjunct::far_at(entries, bodies, node, place, x, j, told, out, b, f);
-        j -= 1;
+    for j in (low + 1..=high).rev() {
+        if blocks::has(mask, j - low - 1) {
+            continue;
+        }
+        let u = sums::numeral(j);
+        f = disjunct::disjunct(part, Change::Far(x, &u), out, b, f);
     }
     f
 }
 
 // The far-left bodies, block by block, from that at x = P to that at x = 1.
 pub fn far_bodies(
-    entries: &[u8],
-    bodies: &[u8],
-    node: usize,
-    place: usize,
+    part: Part,
     x: usize,
     period: usize,
     out: &mut [u8],
     b: State,
     others: Folded,
 ) -> Folded
-    requires { SomeFarToCome (words entries.now) (words bodies.now) node place x period (words out.old) b
-        others }
+    requires { In SomeFarToCome part x period (words out.old) b others }
     ensures { (a : Rule) (l : List Rule) (ds : List Node)
-        → FarToCome (words entries.now) (words bodies.now) node place x period
-        (words out.old) b a l ds others
+        → In FarToCome part.entry x period (words out.old) b a l ds others
         → Gives (words out.new) b ds (fold_of (disjunction_of period x a)) result }
 {
+    let zero = sums::numeral(0);
     let mut j = period;
     let mut f = others;
+    // a block at a time: no count of an index
     while 0 < j {
-        let low = j - blocks::width(j);
-        let judged = blocks::far(entries, bodies, node, place, x, low + 1);
-        f = far_block(
-            entries, bodies, node, place, x, low, j, judged.no, out, b, f,
-        );
+        let low = j.saturating_sub(blocks::WIDTH);
+        let judged = judge::judge(part, true, x, &zero, low + 1);
+        f = far_block(part, x, low, j, judged.no, out, b, f);
         j = low;
     }
     f

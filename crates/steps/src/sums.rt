@@ -1,6 +1,6 @@
-// The sums that step 3 puts in for x: j for the far-left body, b+j for the full one, b being the bound of the literal at
-// some place.
-ghost use Rattle.std.specs.Prelude.{◌≡◌, ◌<◌, ◌≤◌, pos, nat_abs, length, get_or};
+// The sums that step 3 puts in for x: j for the far-left body, b+j for the full one, b being the bound of the literal
+// at some place.
+ghost use Rattle.std.specs.Prelude.{◌≡◌, ◌≤◌, pos, nat_abs};
 ghost use Rattle.rules.specs.Sum.{Sum, factor, add, number, limit};
 ghost use Rattle.rules.specs.Eliminate.{most_period};
 ghost use Rattle.rules.specs.Calls.{words as words_of};
@@ -8,14 +8,6 @@ ghost use Rattle.bodies.specs.Body.{BoundAt};
 ghost use Rattle.steps.specs.Put.{SomeBound};
 
 use tables::words;
-
-// The place of the literal that gives bound i, among the places of the bounds' literals.
-pub fn place(places: &[u32], i: usize) -> usize
-    requires { i < length places.now }
-    ensures { result ≡ get_or places.now i 0 }
-{
-    places[i] as usize
-}
 
 // The sum j.
 pub fn numeral(j: usize) -> [i64; 7]
@@ -38,7 +30,8 @@ fn word(bodies: &[u8], p: usize, x: usize, i: usize) -> i64
     0 - words::get(bodies, p + 1 + i) as i64
 }
 
-// The bound of the literal whose body starts at place p, with j added: T with no x, negated.
+// The bound of the literal whose body starts at place p, with j added: T with no x, negated. Written out, since the first
+// word has j besides: a loop over the six others and a first word of its own are no plainer.
 pub fn above(bodies: &[u8], p: usize, x: usize, j: usize) -> [i64; 7]
     requires { SomeBound (words_of bodies.now) x p × (j ≤ most_period) }
     ensures { (b : Sum) → BoundAt (words_of bodies.now) x p b → result ≡ add b (number (pos j)) }

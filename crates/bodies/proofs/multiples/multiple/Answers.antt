@@ -1,47 +1,34 @@
--- `multiples::multiple` meets its contract: m is the multiple of what the literals before this place bring.
--- Assumes nothing.
-use native.Mathlib.Omega.{arith}
-use Rattle.bodies.proofs.ScanLaws.{scan_start, scan_here, scan_step, scan_ended, scan_over}
-use Rattle.bodies.proofs.MultipleLaws.{Past, multiple_none, grown, small, past}
-use Rattle.bodies.proofs.MultipleLaws.{answer_least, answer_over}
+-- `multiples::multiple` meets its contract: m is the multiple of what the literals that have come bring.
+use Rattle.std.proofs.Common.{refl}
+use Rattle.bodies.specs.Multiples.{brought}
+use Rattle.bodies.proofs.LiteralsLaws.{scan_start, scan_here, scan_step, scan_ended, scan_over}
+use Rattle.bodies.proofs.MultipleLaws.{Past, held_none, held_more, past, brought_over, answer_held, answer_past}
 use Rattle.bodies.proofs.multiples.multiple.Goals as goal
 
-pub first-place-requires : goal.first-place-requires
-first-place-requires c = c.requires.0
-
 pub loop-place-init : goal.loop-place-init
-loop-place-init c = (omega arith, scan_start _ (multiple_none _) c.first-place.ensures)
+loop-place-init c =
+    scan_start _ (held_none (brought c.args.setting)) c.into_iter-place-iterator.ensures.into_iter_gives
+    c.of-place-items.ensures.1
 
 pub part-requires : goal.part-requires
 part-requires c =
-    let pre = c.requires in
-    ((_, scan_here c.loop-place.invariant.1 c.loop-place-test.true pre.0), pre.1)
+    ((_, scan_here c.loop-place.invariant c.in-Some.ensures.steps c.requires.0), c.requires.1)
 
-pub returns-in_default : goal.returns-in_default
-returns-in_default c =
-    let told = c.in_default.is in
-    λ n a b.
-    answer_over _ a _ told b.formed
-    (scan_ended c.loop-place.invariant.1 c.loop-place-test.true (Past _)
-    (λ t s ls ks l q. past _ _ _ _ c.lcm-more.ensures told t s ls ks q (c.part.ensures _ t s ls l)) n a b)
-
-pub following-place-requires : goal.following-place-requires
-following-place-requires c =
-    scan_here c.loop-place.invariant.1 c.loop-place-test.true c.requires.0
-
-pub loop-place-smaller : goal.loop-place-smaller
-loop-place-smaller c =
-    omega (arith, c.following-place.ensures.0, c.loop-place-test.true)
+pub returns-in_err-m : goal.returns-in_err-m
+returns-in_err-m c = λ n a b.
+    let f = brought c.args.setting in
+    answer_past f a _ c.from_residual.ensures b.formed
+    (scan_ended c.loop-place.invariant c.in-Some.ensures.steps (Past f)
+    (λ t s ls ks l q. past f _ _ _ c.lcm.ensures (brought_over c.args.setting) c.in_err-m.was t s ls ks q
+    (c.part.ensures _ t s ls l)) n a b)
 
 pub loop-place-preserved : goal.loop-place-preserved
 loop-place-preserved c =
-    let told = c.in-Least.is in (
-      small _ _ _ c.lcm-more.ensures _ told,
-      scan_step c.loop-place.invariant.1 c.loop-place-test.true _ c.following-place.ensures.1
-          (λ t s ls ks l q. grown _ _ _ _ c.lcm-more.ensures _ told t s ks q (c.part.ensures _ t s ls l)),
-    )
+    let f = brought c.args.setting in
+    scan_step c.loop-place.invariant c.in-Some.ensures.steps _
+    (λ t s ls ks l q. held_more f _ _ _ c.lcm.ensures _ c.in_ok-m.was t s ks q (c.part.ensures _ t s ls l))
 
 pub returns : goal.returns
-returns c =
-    let inv = c.loop-place.invariant in
-    λ n a b. answer_least _ a _ inv.0 (scan_over inv.1 (omega (arith, c.loop-place-test.false)) n a b)
+returns c = λ n a b.
+    answer_held (brought c.args.setting) a _ _ refl
+    (scan_over c.loop-place.invariant c.in-None.ensures.steps n a b)

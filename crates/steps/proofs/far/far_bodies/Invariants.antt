@@ -1,14 +1,12 @@
-use mathlib.Core.Path.{◌≡◌}
 use Prim.Native.Nat.{◌≤◌}
-use lib.ListN.{length}
 use Rattle.rules.specs.Calls.{words}
+use Rattle.steps.specs.There.{In}
 use Rattle.steps.proofs.FarLaws.{FarDone}
 use Rattle.steps.proofs.far.far_bodies.Given as goal
 
 abbrev pub invariant-loop-j : goal.invariant-loop-j
-invariant-loop-j l =
-    (l.j ≤ l.period) × (length l.out ≡ length l.initial.out)
-    × FarDone (words l.entries) (words l.bodies) l.node l.place l.x l.period (words l.initial.out) l.b l.initial.f (words l.out) l.j l.f
+invariant-loop-j l = (l.j ≤ l.period)
+    × In FarDone l.part l.x l.period (words l.initial.out) l.b l.initial.f (words l.out) l.j l.f
 
 abbrev pub decreases-loop-j : goal.decreases-loop-j
 decreases-loop-j l = l.j

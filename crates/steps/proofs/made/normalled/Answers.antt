@@ -3,20 +3,17 @@
 use Rattle.steps.proofs.MakingLaws.{setting_low, normal_ready, never_over, made_answer, normal_gives}
 use Rattle.steps.proofs.made.normalled.Goals as goal
 
-pub plain-body-requires : goal.plain-body-requires
-plain-body-requires c =
-    let some = c.requires in
-    record { rule = some.rule; tail = some.tail; ready = normal_ready some.making }
+pub plain-requires : goal.plain-requires
+plain-requires c =
+    let some = c.requires in record { rule = some.rule; tail = some.tail; ready = normal_ready some.making }
 
 pub returns-in_default : goal.returns-in_default
-returns-in_default c =
-    λ a ds m. never_over m _ _ c.plain-body.ensures c.in_default.is
+returns-in_default c = λ a ds m. never_over m _ _ c.plain.ensures c.in_default.is
 
 pub bound-requires : goal.bound-requires
 bound-requires c =
     let some = c.requires in
-    (made_answer some.making _ _ c.plain-body.ensures _ c.in-Made.is, setting_low some.making)
+    (made_answer some.making _ _ c.plain.ensures _ c.in-Some.is, setting_low some.making)
 
 pub returns : goal.returns
-returns c =
-    λ a ds m. normal_gives m _ _ c.plain-body.ensures _ c.in-Made.is _ _ c.bound.ensures
+returns c = λ a ds m. normal_gives m _ _ c.plain.ensures _ c.in-Some.is _ _ c.bound.ensures

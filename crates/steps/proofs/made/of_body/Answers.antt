@@ -5,46 +5,33 @@ use Rattle.steps.proofs.StepLaws.{truth_gives}
 use Rattle.steps.proofs.made.of_body.Goals as goal
 
 pub by_some-requires : goal.by_some-requires
-by_some-requires c =
-    let (some, zeros) = c.requires in
-    (some_known _ _ c.in-ForAll.is some, zeros)
+by_some-requires c = some_known _ _ c.in-ForAll.is c.requires
 
 pub normalled-requires : goal.normalled-requires
-normalled-requires c =
-    some_known _ _ c.in-NormalForm.is c.requires.0
+normalled-requires c = some_known _ _ c.in-NormalForm.is c.requires
 
 pub scaled-requires : goal.scaled-requires
 scaled-requires c =
     let is = c.in-CommonFactor.is in
-    let (some, zeros) = c.requires in
-    let (from, to) = factor_fair _ _ is some in
-    (some_known _ _ is some, zeros, from, to)
+    let (from, to) = factor_fair _ _ is c.requires in (some_known _ _ is c.requires, from, to)
 
 pub disjunction-requires : goal.disjunction-requires
-disjunction-requires c =
-    some_disjoining _ _ _ c.in-Disjunction.is c.requires.0
+disjunction-requires c = some_disjoining _ _ _ c.in-Disjunction.is c.requires
 
 pub returns-in-ForAll : goal.returns-in-ForAll
-returns-in-ForAll c =
-    let is = c.in-ForAll.is in
-    λ a ds m. known_gives _ _ is m _ _ (λ k. c.by_some.ensures a ds k.making)
+returns-in-ForAll c = λ a ds m. known_gives _ _ c.in-ForAll.is m _ _ (λ k. c.by_some.ensures a ds k.making)
 
 pub returns-in-NormalForm : goal.returns-in-NormalForm
-returns-in-NormalForm c =
-    let is = c.in-NormalForm.is in
-    λ a ds m. known_gives _ _ is m _ _ (λ k. c.normalled.ensures a ds k.making)
+returns-in-NormalForm c = λ a ds m.
+    known_gives _ _ c.in-NormalForm.is m _ _ (λ k. c.normalled.ensures a ds k.making)
 
 pub returns-in-CommonFactor : goal.returns-in-CommonFactor
-returns-in-CommonFactor c =
-    let is = c.in-CommonFactor.is in
-    λ a ds m. known_gives _ _ is m _ _ (λ k. c.scaled.ensures a ds k.making)
+returns-in-CommonFactor c = λ a ds m.
+    known_gives _ _ c.in-CommonFactor.is m _ _ (λ k. c.scaled.ensures a ds k.making)
 
 pub returns-in-Disjunction : goal.returns-in-Disjunction
-returns-in-Disjunction c =
-    let is = c.in-Disjunction.is in
-    λ a ds m. known_gives _ _ is m _ _ (λ k. disjunction_gives k _ _ (c.disjunction.ensures a ds))
+returns-in-Disjunction c = λ a ds m.
+    known_gives _ _ c.in-Disjunction.is m _ _ (λ k. disjunction_gives k _ _ (c.disjunction.ensures a ds))
 
 pub returns-in-Truth : goal.returns-in-Truth
-returns-in-Truth c =
-    let is = c.in-Truth.is in
-    λ a ds m. known_gives _ _ is m _ _ (truth_gives _)
+returns-in-Truth c = λ a ds m. known_gives _ _ c.in-Truth.is m _ _ (truth_gives _)
