@@ -20,17 +20,18 @@ use Rattle.tables.proofs.WordLaws.{number_of, words_length, words_between}
 use Rattle.tables.proofs.Standings.{count_there, size_there, bodies_there}
 use Rattle.leaveoff.specs.Result.{Held}
 use Rattle.text.specs.Lines.{lines}
-use Rattle.text.specs.Placed.{Placed}
-use Rattle.text.proofs.PlacedLaws.{placed_then, placed_as}
+use Rattle.text.specs.Placed.{Puts}
+use Rattle.text.specs.declared.lent.Text.{Text}
+use Rattle.text.proofs.PlacedLaws.{puts_then, puts_as}
 use Rattle.eliminate.specs.Printed.{answer_line, node_lines, printed, TableIn, LeftBy}
 
 -- ---- a refusal has no other line
 
 pub refused_put : (x : Result Rule) {a : Answer} {ws : List ℤ} → LeftBy x a ws → ¬ (a.number ≡ 0)
-    → {l m : List ℕ} {p : ℕ} → Placed l 0 (answer_line a) m p → Placed l 0 (printed x) m p
+    → {t u : Text} → Puts t (answer_line a) u → Puts t (printed x) u
 unfolding printed node_lines table_answer
 refused_put (refused n) {a} left some f =
-    placed_as (ap answer_line left.answered ∙ sym (append-nil (answer_line (table_answer (refused n))))) f
+    puts_as f (ap answer_line left.answered ∙ sym (append-nil (answer_line (table_answer (refused n)))))
 refused_put (given r) left some f = absurd (some (ap (λ (b : Answer). b.number) left.answered))
 
 -- ---- a table
@@ -91,9 +92,8 @@ module _ {l : List ℕ} {n w : ℕ} {r : Rule} (t : TableRead l n w r) where
 
 -- its lines follow the first
 pub table_put : {x : Result Rule} {a : Answer} {ws : List ℤ} → LeftBy x a ws → {r : Rule} → x ≡ given r
-    → {l m k : List ℕ} {p q : ℕ} → Placed l 0 (answer_line a) m p → Placed m p (lines 0 (nodes r)) k q
-    → Placed l 0 (printed x) k q
+    → {t u v : Text} → Puts t (answer_line a) u → Puts u (lines 0 (nodes r)) v → Puts t (printed x) v
 unfolding printed node_lines
 table_put {x} left {r} e f g =
-    placed_as (ap (λ (b : Answer). answer_line b ++ lines 0 (nodes r)) left.answered
-    ∙ ap (λ (y : Result Rule). answer_line (table_answer x) ++ node_lines y) (sym e)) (placed_then f g)
+    puts_as (puts_then f g) (ap (λ (b : Answer). answer_line b ++ lines 0 (nodes r)) left.answered
+    ∙ ap (λ (y : Result Rule). answer_line (table_answer x) ++ node_lines y) (sym e))

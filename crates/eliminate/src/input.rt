@@ -12,6 +12,7 @@ pub fn fill<R: Read>(reader: &mut R, buffer: &mut [u8]) -> io::Result<usize>
     ensures consumed { IfOk result (λ n. Consumes (R.remaining reader.old) (R.remaining reader.new) (take n buffer.new)) }
     ensures ended { IfOk result (λ n. n < length buffer.new → IsAtEnd (R.remaining reader.new)) }
 {
+    // Not read_exact, which refuses an input that ends, nor read_to_end, which needs a Vec.
     let mut count = 0;
     while count < buffer.len() {
         let more = reader.read(&mut buffer[count..])?;

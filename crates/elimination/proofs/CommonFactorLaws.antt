@@ -11,7 +11,6 @@ use Rattle.whole.specs.Integers.{within}
 use Rattle.whole.proofs.Tests.{T_and, is_false}
 use Rattle.rules.specs.Sum.{Sum, put, number, setting, limit, all_within}
 use Rattle.rules.specs.Rule.{Quantifier, for_some, for_all, divisible, Rule, Literal, Some}
-use Rattle.rules.specs.Result.{Result}
 use Rattle.rules.specs.Table.{is_divisor}
 use Rattle.rules.specs.Fold.{fold}
 use Rattle.rules.specs.Chosen.{the, chosen, replace}
@@ -19,7 +18,6 @@ use Rattle.rules.specs.Literals.{some_literal}
 use Rattle.rules.specs.Steps.{common_factor, scaled}
 use Rattle.rules.specs.Eliminate.{over_limit, most_period, common_step}
 use Rattle.rules.specs.Laws.{Each}
-use Rattle.rules.specs.Calls.{words}
 use Rattle.rules.proofs.Sizes.{weight}
 use Rattle.rules.proofs.Shapes.{Shape, seven_put, some_shape, scaled_shape}
 use Rattle.rules.proofs.CommonFactor.{common_factor_pos}
@@ -29,10 +27,13 @@ use Rattle.rules.proofs.Limits.{within_table}
 use Rattle.literals.specs.Changes.{Usable, becomes, Fair}
 use Rattle.walks.specs.Walk.{changed}
 use Rattle.steps.specs.Making.{new_of, FairStep}
-use Rattle.elimination.specs.Stepping.{is_some, Stepped, sized}
-use Rattle.literals.specs.declared.change.Change.TheVariants.{Scaled}
+use Rattle.elimination.specs.Stepping.{Answer, is_some, Stepped, sized}
+use Rattle.literals.specs.Changes.{Scaled}
 use Rattle.elimination.specs.declared.locate.Quantified.{Quantified}
 use Rattle.steps.specs.declared.made.Step.TheVariants.{CommonFactor}
+use Rattle.std.specs.Prelude.{⊤, Ok, Err}
+use Rattle.tables.specs.Refusals.{number_of}
+use Rattle.tables.specs.declared.refusal.Refusal.TheVariants.{Number, Multiple}
 use Rattle.elimination.proofs.StepLaws.{refusal, Least, common_refused, common_is}
 use Rattle.elimination.proofs.PlacedLaws.{Placed, NewRule, light_body, in_range, low, high, formed, stepped_by}
 use Rattle.elimination.proofs.PlacedLaws.{over_by}
@@ -69,17 +70,18 @@ some_only for_all t = absurd t
 
 -- ---- the step
 
-module _ {l : List ℕ} {ws : List ℤ} {room : ℕ} {r : Rule} {c : Quantified} (p : Placed l ws room r c) where
+module _ {ts ws : List ℤ} {room : ℕ} {r : Rule} {c : Quantified} (p : Placed ts ws room r c) where
   pub common_over : (ts : List ℤ) → most_period < common_factor c.setting p.body
-      → Stepped (common_step room r) 7 ts
-  common_over ts many = refusal ts 7 (common_refused room r p.there.at many)
+      → Stepped (common_step room r) (Err Multiple) ts
+  unfolding number_of
+  common_over ts many = refusal ts Multiple (common_refused room r p.there.at many)
 
   module _ (D : ℕ) (least : Least (common_factor c.setting p.body) D) where
     fair_factor : (1 ≤ D) × (D ≤ most_period)
     fair_factor = (omega (arith, least.0, common_factor_pos c.setting p.body), least.1)
 
     -- where it is 1, the table stays
-    pub common_stays : (c.some && eqb D 1) ≡ true → Stepped (common_step room r) 0 (words l)
+    pub common_stays : {u : ⊤} → (c.some && eqb D 1) ≡ true → Stepped (common_step room r) (Ok u) ts
     unfolding Stepped
     common_stays e =
         let (some, one) = (T_and c.some (eqb D 1)).0 (subst T (sym e) tt) in
@@ -89,31 +91,30 @@ module _ {l : List ℕ} {ws : List ℤ} {room : ℕ} {r : Rule} {c : Quantified}
         let small = divisor_within 1 c.setting (omega arith) (omega arith) (high p) in
         let ready = p.ready in
         let stays = common_one room r at (high p) factor_is ready.has.formed ready.folded small ready.fits in
-        subst (λ (s : Result Rule). Stepped s 0 (words l)) (sym stays) (refl, ready.has.table)
+        (r, stays, ready.has.table)
 
-    pub scaled_usable : (u : Sum) → u ≡ number (pos 0) → Usable (Scaled D c.setting) u
+    pub scaled_usable : Usable (Scaled D c.setting) (number (pos 0))
     unfolding Fair all_within
-    scaled_usable u e = subst (Usable (Scaled D c.setting)) (sym e)
-        (record { seven = refl; small = tt; fair = (in_range p, fair_factor.0, fair_factor.1) })
+    scaled_usable = record { seven = refl; small = tt; fair = (in_range p, fair_factor.0, fair_factor.1) }
 
-    scaled_numbers : (u : Sum) (b : Bool) → b ≡ some_literal over_limit (changed (Scaled D c.setting) u p.body)
+    scaled_numbers : (b : Bool) → b ≡ some_literal over_limit (changed (Scaled D c.setting) (number (pos 0)) p.body)
         → some_literal over_limit (Some c.setting (scaled D c.setting p.body)) ≡ b
     unfolding changed becomes some_literal scaled
-    scaled_numbers u b e =
-        ap (λ (d : Bool). some_literal over_limit (changed (Scaled D c.setting) u p.body) || d)
+    scaled_numbers b e =
+        ap (λ (d : Bool). some_literal over_limit (changed (Scaled D c.setting) (number (pos 0)) p.body) || d)
         (divisor_within D c.setting fair_factor.0 fair_factor.1 (high p))
         ∙ or-false _ ∙ sym e
 
-    pub new_scaled : (bs : List ℤ) (places : List ℕ) (u : Sum) {b : Bool} → b ≡ false
-        → b ≡ some_literal over_limit (changed (Scaled D c.setting) u p.body)
-        → NewRule (CommonFactor D) bs places c.setting p.body
+    pub new_scaled : (bs : List ℤ) {b : Bool} → b ≡ false
+        → b ≡ some_literal over_limit (changed (Scaled D c.setting) (number (pos 0)) p.body)
+        → NewRule (CommonFactor D) bs c.setting p.body
     unfolding new_of FairStep weight
-    new_scaled bs places u none e =
+    new_scaled bs none e =
         let b = scaled D c.setting p.body in
         record {
           makeable = record {
             fair = fair_factor;
-            numbers = subst (λ (d : Bool). T (not d)) (sym (scaled_numbers u _ e ∙ none)) tt;
+            numbers = subst (λ (d : Bool). T (not d)) (sym (scaled_numbers _ e ∙ none)) tt;
             light = omega (
               arith,
               fold_lighter (Some c.setting b),
@@ -126,15 +127,15 @@ module _ {l : List ℕ} {ws : List ℤ} {room : ℕ} {r : Rule} {c : Quantified}
               (scaled_shape c.setting p.body (low p) (high p) (formed p)));
         }
 
-    pub scaled_over : (ts : List ℤ) (u : Sum) {b : Bool} → b ≡ true
-        → b ≡ some_literal over_limit (changed (Scaled D c.setting) u p.body)
-        → Stepped (common_step room r) 5 ts
-    scaled_over ts u some e =
+    pub scaled_over : (ts : List ℤ) {b : Bool} → b ≡ true
+        → b ≡ some_literal over_limit (changed (Scaled D c.setting) (number (pos 0)) p.body)
+        → Stepped (common_step room r) (Err Number) ts
+    scaled_over ts some e =
         over_by p (Some c.setting (scaled D c.setting p.body)) (common_is room r p.there.at least)
-        (scaled_numbers u _ e ∙ some) ts
+        (scaled_numbers _ e ∙ some) ts
 
-    pub common_stepped : (ts : List ℤ) (n : ℕ) {bs : List ℤ} {places : List ℕ}
-        → NewRule (CommonFactor D) bs places c.setting p.body
+    pub common_stepped : (ts : List ℤ) (n : Answer) {bs : List ℤ}
+        → NewRule (CommonFactor D) bs c.setting p.body
         → Stepped (sized room (fold (replace (new_of (CommonFactor D) c.setting p.body) r))) n ts
         → Stepped (common_step room r) n ts
     unfolding new_of

@@ -3,7 +3,7 @@
 use mathlib.Core.Path.{◌≡◌, sym, ◌∙◌, subst}
 use mathlib.Core.Bool.{Bool, true, false, not}
 use mathlib.Core.List.{List, []}
-use Prim.Native.Nat.{ℕ, ◌+◌}
+use Prim.Native.Nat.{ℕ}
 use native.Mathlib.Omega.{arith}
 use lib.Dec.{T}
 use lib.IntN.{ℤ}
@@ -19,28 +19,29 @@ use Rattle.rules.proofs.Sizes.{weight, total}
 use Rattle.rules.proofs.Shapes.{formed_shape, normal_shape, some_shape, by_some_shape}
 use Rattle.rules.proofs.Weights.{fold_lighter, by_some_weight, normal_lighter}
 use Rattle.rules.proofs.Limits.{within_table}
-use Rattle.tables.proofs.WordLaws.{part}
+use Rattle.tables.specs.declared.part.Part.{Part}
 use Rattle.builder.specs.Built.{Built}
 use Rattle.builder.specs.declared.push.State.{State}
 use Rattle.folding.specs.declared.answers.Folded.{Folded}
-use Rattle.walks.specs.Normal.{NormalReady, Normalled}
+use Rattle.walks.specs.Normal.{NormalReadyIn, Normalled}
 use Rattle.steps.specs.Making.{new_of, FairStep}
-use Rattle.elimination.specs.Stepping.{Stepped, sized}
+use Rattle.elimination.specs.Stepping.{Answer, BodyIn, Stepped, sized}
 use Rattle.elimination.specs.declared.locate.Quantified.{Quantified}
-use Rattle.walks.specs.declared.normal.Normal.{Normal}
-use Rattle.walks.specs.declared.normal.Normal.TheVariants.{OverLimit, Made}
 use Rattle.steps.specs.declared.made.Step.TheVariants.{ForAll, NormalForm}
-use Rattle.elimination.proofs.LocateLaws.{body_stands, body_few, body_free, quantifier_formed}
+use Rattle.std.specs.Prelude as std
+use Rattle.std.specs.Prelude.{Option, None, is_some, Err}
+use Rattle.tables.specs.declared.refusal.Refusal.TheVariants.{Number}
+use Rattle.elimination.proofs.LocateLaws.{body_free, quantifier_formed}
 use Rattle.elimination.proofs.StepLaws.{for_all_is, normal_is}
 use Rattle.elimination.proofs.PlacedLaws.{Placed, NewRule, light_body, in_range, low, high, formed, stepped_by}
 use Rattle.elimination.proofs.PlacedLaws.{over_by}
 
 -- ---- for-all: it becomes not, for some, not
 
-module _ {l : List ℕ} {ws : List ℤ} {room : ℕ} {r : Rule} {c : Quantified} (p : Placed l ws room r c) where
-  pub new_by_some : (bs : List ℤ) (places : List ℕ) → NewRule ForAll bs places c.setting p.body
+module _ {ts ws : List ℤ} {room : ℕ} {r : Rule} {c : Quantified} (p : Placed ts ws room r c) where
+  pub new_by_some : (bs : List ℤ) → NewRule ForAll bs c.setting p.body
   unfolding new_of FairStep Each
-  new_by_some bs places = record {
+  new_by_some bs = record {
     makeable = record {
       fair = tt;
       numbers = within_table (by_some c.setting p.body) (quantifier_formed p.there);
@@ -54,21 +55,21 @@ module _ {l : List ℕ} {ws : List ℤ} {room : ℕ} {r : Rule} {c : Quantified}
     shape = by_some_shape c.setting p.body (low p) (high p) (formed p);
   }
 
-  pub for_all_stepped : (ts : List ℤ) (n : ℕ) → c.some ≡ false
+  pub for_all_stepped : (ts : List ℤ) (n : Answer) → c.some ≡ false
       → Stepped (sized room (fold (replace (new_of ForAll c.setting p.body) r))) n ts
       → Stepped (for_all_step room r) n ts
   unfolding new_of
   for_all_stepped ts n e =
       let is = for_all_is room r p.quantifier (sym p.some_is ∙ e) p.there.at in
-      stepped_by p is (new_by_some [] []) ts n
+      stepped_by p is (new_by_some []) ts n
 
   -- ---- 1. normal form
 
-  pub new_normal : (bs : List ℤ) (places : List ℕ) {b : Bool} → b ≡ false
+  pub new_normal : (bs : List ℤ) {b : Bool} → b ≡ false
       → b ≡ some_literal over_limit (normal true c.setting p.body)
-      → NewRule NormalForm bs places c.setting p.body
+      → NewRule NormalForm bs c.setting p.body
   unfolding new_of FairStep some_literal weight
-  new_normal bs places none e =
+  new_normal bs none e =
       let b = normal true c.setting p.body in
       record {
         makeable = record {
@@ -86,11 +87,11 @@ module _ {l : List ℕ} {ws : List ℤ} {room : ℕ} {r : Rule} {c : Quantified}
       }
 
   -- it is built from nothing, only to see its numbers
-  pub normal_asks : (b : State) → ((vs : List ℤ) → Built vs b []) → NormalReady (part l (c.node + 2))
-      (part l (c.place + 2)) (c.node + 1) (c.place + 2) c.setting ws b p.body []
+  pub normal_asks : {q : Part} → BodyIn ts c.place p.body q → (b : State) → ((vs : List ℤ) → Built vs b [])
+      → NormalReadyIn q c.setting ws b p.body []
   unfolding total
-  normal_asks b none = record {
-    at = record { stands = body_stands p.there; few = body_few p.there; formed = formed p };
+  normal_asks there b none = record {
+    at = there.at;
     free = body_free p.there;
     setting = in_range p;
     building = record {
@@ -101,26 +102,24 @@ module _ {l : List ℕ} {ws : List ℤ} {room : ℕ} {r : Rule} {c : Quantified}
   }
 
   pub normal_refused : (ts : List ℤ) {b : Bool} → b ≡ true
-      → b ≡ some_literal over_limit (normal true c.setting p.body) → Stepped (normal_step room r) 5 ts
+      → b ≡ some_literal over_limit (normal true c.setting p.body) → Stepped (normal_step room r) (Err Number) ts
   unfolding some_literal
   normal_refused ts some e =
       over_by p (Some c.setting (normal true c.setting p.body)) (normal_is room r p.there.at)
       (sym e ∙ some) ts
 
-  pub normal_stepped : (ts : List ℤ) (n : ℕ) {bs : List ℤ} {places : List ℕ}
-      → NewRule NormalForm bs places c.setting p.body
+  pub normal_stepped : (ts : List ℤ) (n : Answer) {bs : List ℤ}
+      → NewRule NormalForm bs c.setting p.body
       → Stepped (sized room (fold (replace (new_of NormalForm c.setting p.body) r))) n ts
       → Stepped (normal_step room r) n ts
   unfolding new_of
   normal_stepped ts n new = stepped_by p (normal_is room r p.there.at) new ts n
 
 -- what is told of its numbers
-pub normal_passes : (vs : List ℤ) (b : State) (n : Rule) {f : Normal} → f ≡ OverLimit → Normalled vs b [] n f
-    → true ≡ some_literal over_limit n
+pub passes : (vs : List ℤ) (b : State) (n : Rule) (f : Option Folded) (none : Bool) → Normalled vs b [] n f
+    → is_some f ≡ not none → none ≡ some_literal over_limit n
 unfolding Normalled
-normal_passes vs b n e h = sym (is_true _ (subst (Normalled vs b [] n) e h))
-
-pub normal_within : (vs : List ℤ) (b : State) (n : Rule) {f : Normal} (g : Folded) → f ≡ Made g → Normalled vs b [] n f
-    → false ≡ some_literal over_limit n
-unfolding Normalled
-normal_within vs b n g e h = sym (is_false _ (subst (Normalled vs b [] n) e h).0)
+passes vs b n None true h e = sym (is_true _ h)
+passes vs b n None false h e = absurd cc
+passes vs b n (std.Some g) true h e = absurd cc
+passes vs b n (std.Some g) false h e = sym (is_false _ h.0)

@@ -22,10 +22,10 @@ use Rattle.steps.specs.Surveying.{Surveyed}
 use Rattle.steps.proofs.SurveyLaws.{told_none}
 use Rattle.steps.proofs.SurveyOutcomes.{folds_to_true, folds_to_false, folds_long}
 use Rattle.elimination.specs.Stepping.{sized, Planned}
-use Rattle.steps.specs.declared.survey.Survey.{Survey}
-use Rattle.steps.specs.declared.survey.Survey.TheVariants.{SomeTrue, NoneTrue}
-use Rattle.steps.specs.declared.made.Step.TheVariants.{Disjunction, Truth}
-use Rattle.elimination.specs.declared.step.Plan.TheVariants.{TooLong, Make}
+use Rattle.steps.specs.declared.made.Step.TheVariants.{Truth}
+use Rattle.steps.specs.declared.made.Step.{Step}
+use Rattle.tables.specs.declared.refusal.Refusal.TheVariants.{Room}
+use Rattle.std.specs.Prelude.{Option, Some, None, Ok, Err}
 
 -- ---- what folds to the same
 
@@ -77,12 +77,12 @@ no_room room f long = by (leb (size f) room) (λ t. omega (arith, long, leb→le
 
 -- ---- what is planned, as the survey tells it
 
-module _ (room P k x : ℕ) (a : Rule) {s : Survey} (seen : Surveyed (disjuncts P x a) s) where
+module _ (room P : ℕ) (whole : Step) (x : ℕ) (a : Rule) {s : Option ℕ} (seen : Surveyed (disjuncts P x a) s) where
   folded_is : fold (disjunction P x a) ≡ fold_any (disjuncts P x a)
   unfolding disjunction
   folded_is = fold_any_of (disjuncts P x a)
 
-  pub plan_true : s ≡ SomeTrue → Planned room P k x a (Make (Truth true))
+  pub plan_true : s ≡ None → Planned room P whole x a (Ok (Truth true))
   unfolding Planned
   plan_true e = inr (
     true,
@@ -91,22 +91,23 @@ module _ (room P k x : ℕ) (a : Rule) {s : Survey} (seen : Surveyed (disjuncts 
         ∙ folds_to_true (disjuncts P x a) (subst (Surveyed (disjuncts P x a)) e seen),
   )
 
-  module _ {n : ℕ} (e : s ≡ NoneTrue n) where
-    told : Surveyed (disjuncts P x a) (NoneTrue n)
+  module _ {n : ℕ} (e : s ≡ Some n) where
+    told : Surveyed (disjuncts P x a) (Some n)
     told = told_none (disjuncts P x a) e seen
 
-    pub plan_false : n ≡ 0 → Planned room P k x a (Make (Truth false))
+    pub plan_false : n ≡ 0 → Planned room P whole x a (Ok (Truth false))
     unfolding Planned
     plan_false none = inr (false, refl, folded_is ∙ folds_to_false (disjuncts P x a) told none)
 
-    pub plan_long : room / 5 + 1 < n → Planned room P k x a TooLong
+    pub plan_long : room / 5 + 1 < n → Planned room P whole x a (Err Room)
     unfolding Planned
     plan_long many =
         let (stays, long) = folds_long (disjuncts P x a) told (omega (arith, many)) in
         let parts = div-add-mod' room 5 in
-        subst (λ (f : Rule). Open f × (room ≤ count f + weight f)) (sym folded_is)
-        (stays, omega (arith, long, many, parts, mod-lt room {m = 5} (omega arith)))
+        let both = subst (λ (f : Rule). Open f × (room ≤ count f + weight f)) (sym folded_is)
+        (stays, omega (arith, long, many, parts, mod-lt room {m = 5} (omega arith))) in
+        (refl, both.0, both.1)
 
-pub plan_whole : (room P k x : ℕ) (a : Rule) → Planned room P k x a (Make (Disjunction P k))
+pub plan_whole : (room P : ℕ) (whole : Step) (x : ℕ) (a : Rule) → Planned room P whole x a (Ok whole)
 unfolding Planned
-plan_whole room P k x a = inl refl
+plan_whole room P whole x a = inl refl

@@ -7,18 +7,18 @@ use Prim.Native.Nat.{ℕ, ◌+◌, ◌≤◌}
 use native.Mathlib.Omega.{arith}
 use lib.Dec.{T, leb, leb→le}
 use lib.IntN.{ℤ, pos}
-use lib.ListN.{length, get_or, drop}
+use lib.ListN.{length, drop}
 use lib.Seq.{drop-drop}
-use Rattle.rules.specs.Sum.{Sum, number, all_within}
+use Rattle.rules.specs.Sum.{number, all_within}
 use Rattle.rules.specs.Rule.{Quantifier, Rule}
 use Rattle.rules.specs.Result.{given, ◌>>=◌, require}
-use Rattle.rules.specs.Table.{Node, most_words, count, nodes, encode, size}
+use Rattle.rules.specs.Table.{Node, most_words, count, nodes, size}
 use Rattle.rules.specs.Fold.{fold}
 use Rattle.rules.specs.Chosen.{replace}
 use Rattle.rules.specs.Literals.{some_literal}
 use Rattle.rules.specs.Eliminate.{over_limit, step_table}
 use Rattle.rules.specs.Laws.{InTable, WellFormed}
-use Rattle.rules.specs.Calls.{signed, words}
+use Rattle.rules.specs.Calls.{words, rule_of}
 use Rattle.rules.proofs.Refusals.{passed, then}
 use Rattle.rules.proofs.Sizes.{weight, total, weight_is}
 use Rattle.rules.proofs.Folding.{keep_fold}
@@ -27,9 +27,7 @@ use Rattle.rules.proofs.Choosing.{put}
 use Rattle.rules.proofs.Shapes.{each_by_parts}
 use Rattle.rules.proofs.Limits.{within_table, replaced_formed}
 use Rattle.tables.specs.Standing.{TableAt}
-use Rattle.tables.proofs.WordLaws.{words_from}
-use Rattle.tables.proofs.WordLaws.{part}
-use Rattle.tables.proofs.Passed.{TableOf, table_words, table_formed, table_most}
+use Rattle.tables.proofs.Passed.{TableOf, table_at, table_formed, table_most}
 use Rattle.tables.specs.Last.{chosen_place}
 use Rattle.builder.specs.Built.{Built, Countable}
 use Rattle.builder.specs.declared.push.State.{State}
@@ -38,16 +36,21 @@ use Rattle.finishing.specs.Finishing.{Finishable}
 use Rattle.folding.specs.Answers.{Gives, Answered}
 use Rattle.folding.specs.declared.answers.Folded.{Folded}
 use Rattle.folding.specs.declared.answers.Folded.TheVariants.{Known, Pushed}
-use Rattle.literals.specs.Changes.{Usable, Fair}
+use Rattle.literals.specs.Changes.{Fair}
 use Rattle.walks.specs.Walk.{changed, Ready}
 use Rattle.steps.specs.Making.{new_of, Makeable, Around}
 use Rattle.steps.proofs.ThereLaws.{unchanged}
 use Rattle.steps.proofs.ReplaceLaws.{put_lighter}
 use Rattle.elimination.specs.Stepping.{HasTable, InPlace, none_built, Folding, Closing, sized, Stepped}
-use Rattle.elimination.specs.Stepping.{Rebuilding, FirstReady}
-use Rattle.literals.specs.declared.change.Change.TheVariants.{Same}
+use Rattle.elimination.specs.Stepping.{Rebuilding, FirstReady, WholeIn}
+use Rattle.literals.specs.Changes.{Same}
 use Rattle.steps.specs.declared.made.Step.{Step}
-use Rattle.elimination.proofs.TableLaws.{words_there, ReadTable, read_table, rule_stands, rule_few}
+use Rattle.std.specs.Prelude.{⊤, Ok, Err}
+use Rattle.tables.specs.Refusals.{number_of}
+use Rattle.tables.specs.declared.refusal.Refusal.TheVariants.{Room}
+use Rattle.elimination.proofs.StepLaws.{refusal}
+use Rattle.elimination.proofs.TableLaws.{words_there}
+use Rattle.tables.specs.declared.part.Part.{Part}
 
 -- ---- what is built becomes the table
 
@@ -94,18 +97,22 @@ module _ {ts ws : List ℤ} {room : ℕ} {folded : Folded} {f : Rule} (k : Closi
       }
 
 module _ (room : ℕ) (f : Rule) (ts : List ℤ) where
-  pub stepped : leb (size f) room ≡ true → TableAt ts f → Stepped (sized room f) 0 ts
-  unfolding sized Stepped ◌>>=◌ require
-  stepped e t = subst (λ (b : Bool). Stepped (require b 6 >>= λ u. given f) 0 ts) (sym e) (refl, t)
+  by_size : {b : Bool} → leb (size f) room ≡ b → sized room f ≡ (require b 6 >>= λ u. given f)
+  unfolding sized
+  by_size e = ap (λ (b : Bool). require b 6 >>= λ u. given f) e
 
-  pub too_large : leb (size f) room ≡ false → Stepped (sized room f) 6 ts
-  unfolding sized Stepped ◌>>=◌ require
-  too_large e = subst (λ (b : Bool). Stepped (require b 6 >>= λ u. given f) 6 ts) (sym e) refl
+  pub stepped : {u : ⊤} → leb (size f) room ≡ true → TableAt ts f → Stepped (sized room f) (Ok u) ts
+  unfolding Stepped ◌>>=◌ require
+  stepped e t = (f, by_size e, t)
+
+  pub too_large : leb (size f) room ≡ false → Stepped (sized room f) (Err Room) ts
+  unfolding number_of ◌>>=◌ require
+  too_large e = refusal ts Room (by_size e)
 
 -- ---- with a new rule for the chosen quantifier
 
-module _ {ts ws : List ℤ} {room c : ℕ} {step : Step} {places : List ℕ} {r : Rule} {q : Quantifier} {x : ℕ} {a : Rule}
-    (k : Rebuilding ts ws room c step places r q x a) where
+module _ {ts ws : List ℤ} {room c : ℕ} {step : Step} {r : Rule} {q : Quantifier} {x : ℕ} {a : Rule}
+    (k : Rebuilding ts ws room c step r q x a) where
   few_words : weight r + 1 ≤ most_words
   few_words = omega (arith, words_there k.ready.has, k.ready.has.few)
 
@@ -122,56 +129,46 @@ module _ {ts ws : List ℤ} {room c : ℕ} {step : Step} {places : List ℕ} {r 
   }
 
 -- what the walk around the chosen quantifier asks
-pub around_asks : {l : List ℕ} {n : ℕ} {ws : List ℤ} {room c : ℕ} {step : Step} {places : List ℕ} {nothing : Sum}
-    {b : State} {r : Rule} {q : Quantifier} {x : ℕ} {a : Rule} → ReadTable l n r
-    → Rebuilding (words l) ws room c step places r q x a → nothing ≡ number (pos 0) → Starts b
-    → Around (part l 1) (part l (n + 1)) 0 (n + 1) c step places nothing ws b r q x a []
+pub around_asks : {ts ws : List ℤ} {part : Part} {room c : ℕ} {step : Step} {b : State} {r : Rule} {q : Quantifier}
+    {x : ℕ} {a : Rule} → WholeIn ts r part → Rebuilding ts ws room c step r q x a → Starts b
+    → Around (words part.entries.now) (words part.bodies.now) part.node part.place c step ws b r q x a []
 unfolding total
-around_asks {l} {n} {step = step} {places = places} {r = r} {x = x} {a = a} t k zeros none = record {
-  there = record { stands = rule_stands t; few = rule_few t; formed = k.ready.has.formed };
+around_asks {ts} {part = part} {step = step} {r = r} {x = x} {a = a} w k none = record {
+  there = w.at;
   at = k.at;
-  number_is = omega (arith, k.number_is);
-  makeable = subst (λ (bs : List ℤ). Makeable step bs places x a) body_is k.makeable;
-  zeros = zeros;
+  number_is = omega (arith, k.number_is, w.part.node_is);
+  makeable = subst (λ (bs : List ℤ). Makeable step bs x a) body_is k.makeable;
   built = none _;
   small = omega (arith, few_words k);
   room = omega (arith, k.ready.has.few, k.ready.table_room, k.ready.work_room);
 }
   where
-    behind : count r + 1 + chosen_place r + 2 ≡ n + 1 + (chosen_place r + 2)
-    behind = omega (arith, t.counted)
+    behind : count r + 1 + chosen_place r + 2 ≡ count r + 1 + (chosen_place r + 2)
+    behind = omega arith
 
-    body_is : drop (count r + 1 + chosen_place r + 2) (words l) ≡ drop (chosen_place r + 2) (part l (n + 1))
-    body_is = ap (λ (m : ℕ). drop m (words l)) behind ∙ sym (drop-drop (chosen_place r + 2) (n + 1) (words l))
-        ∙ ap (drop (chosen_place r + 2)) (sym (words_from l (n + 1)))
+    body_is : drop (count r + 1 + chosen_place r + 2) ts ≡ drop (chosen_place r + 2) (words part.bodies.now)
+    body_is = ap (λ (m : ℕ). drop m ts) behind ∙ sym (drop-drop (chosen_place r + 2) (count r + 1) ts)
+        ∙ ap (drop (chosen_place r + 2)) (sym w.part.bodies_are)
 
 -- ---- the first one: a rule folded, with nothing changed
 
-pub folding_table : {l : List ℕ} {n : ℕ} {ws : List ℤ} {r : Rule} → Folding (words l) n ws r → ReadTable l n r
-folding_table k = record { has = k.has; counted = k.counted }
-
-pub fold_asks : (l : List ℕ) {n : ℕ} {ws : List ℤ} {nothing : Sum} {b : State} {r : Rule}
-    → Folding (words l) n ws r → nothing ≡ number (pos 0) → Starts b
-    → Ready (part l 1) (part l (n + 1)) 0 (n + 1) Same nothing ws b r []
+pub fold_asks : {ts ws : List ℤ} {part : Part} {b : State} {r : Rule} → Folding ts ws r → WholeIn ts r part → Starts b
+    → Ready (words part.entries.now) (words part.bodies.now) part.node part.place Same (number (pos 0)) ws b r []
 unfolding total Fair all_within
-fold_asks l {nothing = nothing} {r = r} k zeros none = record {
-  at = record {
-    stands = rule_stands (folding_table k);
-    few = rule_few (folding_table k);
-    formed = k.has.formed;
-  };
-  usable = subst (Usable Same) (sym zeros) (record { seven = refl; small = tt; fair = tt });
-  numbers = subst (λ (a : Rule). T (not (some_literal over_limit a))) (sym (unchanged nothing r))
+fold_asks {r = r} k w none = record {
+  at = w.at;
+  usable = record { seven = refl; small = tt; fair = tt };
+  numbers = subst (λ (a : Rule). T (not (some_literal over_limit a))) (sym (unchanged r))
       (within_table r k.has.formed);
   building = record { built = none _; small = omega (arith, words_there k.has, k.has.few); room = k.most };
 }
 
 -- what the walk answers, with nothing changed
-pub fold_gives : (ws : List ℤ) (u : Sum) (b : State) (r : Rule) (f : Folded) → Gives ws b [] (fold (changed Same u r)) f
-    → Gives ws none_built [] (fold r) f
-fold_gives ws u b r f answered =
+pub fold_gives : (ws : List ℤ) (b : State) (r : Rule) (f : Folded)
+    → Gives ws b [] (fold (changed Same (number (pos 0)) r)) f → Gives ws none_built [] (fold r) f
+fold_gives ws b r f answered =
     started ws b none_built (fold r) f built_none
-    (subst (λ (a : Rule). Gives ws b [] (fold a) f) (unchanged u r) answered)
+    (subst (λ (a : Rule). Gives ws b [] (fold a) f) (unchanged r) answered)
 
 pub fold_closing : {ts ws : List ℤ} {room : ℕ} {r : Rule} {ks : List ℤ} (vs : List ℤ) (f : Folded) → HasTable ks r
     → FirstReady ts ws room → length vs ≡ length ws → Gives vs none_built [] (fold r) f → Closing ts vs room f (fold r)
@@ -186,25 +183,17 @@ fold_closing {r = r} vs f has k same answered = record {
 
 -- ---- of an input apart, and of one in its own place
 
-pub input_folding : {l : List ℕ} {n : ℕ} {ts ws : List ℤ} {room : ℕ} {r : Rule} → TableOf l n r → FirstReady ts ws room
-    → Folding (words l) n ws r
-input_folding {r = r} t k = record {
-  has = record {
-    table = record { after = []; begins = table_words t ∙ sym (append-nil (encode r)) };
-    formed = table_formed t;
-    few = table_most t;
-  };
-  counted = t.counted;
-  most = omega (arith, k.work_room, k.most);
-}
+pub input_folding : (l : List ℕ) {ts ws : List ℤ} {room : ℕ} {r : Rule} → rule_of l ≡ given r → FirstReady ts ws room
+    → Folding (words l) ws r
+input_folding l {r = r} decodes k =
+    let t : TableOf l (count r) r = record { decodes = decodes; counted = refl } in
+    record {
+      has = record { table = table_at t; formed = table_formed t; few = table_most t };
+      most = omega (arith, k.work_room, k.most);
+    }
 
-pub here_folding : (l : List ℕ) {n : ℕ} {ws : List ℤ} {room : ℕ} {r : Rule} → InPlace (words l) ws room r
-    → get_or (words l) 0 (pos 0) ≡ signed n → Folding (words l) n ws r
-here_folding l k e = record {
-  has = k.has;
-  counted = (read_table k.has e).counted;
-  most = omega (arith, k.has.few, k.table_room, k.work_room);
-}
+pub here_folding : {ts ws : List ℤ} {room : ℕ} {r : Rule} → InPlace ts ws room r → Folding ts ws r
+here_folding k = record { has = k.has; most = omega (arith, k.has.few, k.table_room, k.work_room) }
 
 pub here_ready : {ts ws : List ℤ} {room : ℕ} {r : Rule} → InPlace ts ws room r → FirstReady ts ws room
 here_ready k = record {

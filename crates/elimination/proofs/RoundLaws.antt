@@ -1,9 +1,9 @@
--- Steps one after the other: a refusal is never 0 and ends the line; what is given is the next step's table.
+-- Steps one after the other: a refusal ends the line, and what is given is the next step's table.
 -- Assumes nothing.
 use mathlib.Core.Path.{◌≡◌, refl, sym, ◌∙◌, ap, subst}
 use mathlib.Core.Bool.{Bool, true, false}
 use mathlib.Core.List.{List}
-use Prim.Native.Nat.{ℕ, zero, suc, ◌-◌, ◌<◌, ◌≤◌}
+use Prim.Native.Nat.{ℕ, suc, ◌≤◌}
 use native.Mathlib.Omega.{arith}
 use lib.Dec.{not_T, ltb, ltb→lt, lt→ltb}
 use lib.IntN.{ℤ}
@@ -15,15 +15,15 @@ use Rattle.rules.specs.Table.{size}
 use Rattle.rules.specs.Chosen.{Chosen, nothing, the, quantifiers, quantified, chosen}
 use Rattle.rules.specs.Eliminate.{for_all_step, normal_step, common_step, disjunction_step, round, rounds}
 use Rattle.rules.specs.Laws.{WellFormed}
-use Rattle.rules.proofs.Refusals.{then}
+use Rattle.rules.proofs.Refusals.{then, stopped}
 use Rattle.rules.proofs.Choosing.{put, put_some, is_chosen}
 use Rattle.rules.proofs.Folding.{Folded}
-use Rattle.elimination.specs.Stepping.{SomeTable, Locates, LocatedIn, StepReady, SomeStepLocated, Stepped}
+use Rattle.elimination.specs.Stepping.{Answer, SomeTable, Locates, LocatedIn, StepReady, SomeStepLocated, Stepped}
 use Rattle.elimination.specs.Stepping.{numbered}
-use Rattle.elimination.specs.declared.locate.Located.{Located}
-use Rattle.elimination.specs.declared.locate.Located.TheVariants.{Nowhere, There}
+use Rattle.std.specs.Prelude.{⊤, Some, Ok, Err}
+use Rattle.tables.specs.declared.refusal.Refusal.{Refusal}
 use Rattle.elimination.specs.declared.locate.Quantified.{Quantified}
-use Rattle.elimination.proofs.StepLaws.{answered, nowhere, normal_none, common_none, disjunction_none}
+use Rattle.elimination.proofs.StepLaws.{answered, normal_none, common_none, disjunction_none}
 use Rattle.elimination.proofs.StepLaws.{for_some_is}
 use Rattle.elimination.proofs.FairLaws.{Fair, round_fair}
 
@@ -36,13 +36,6 @@ pub record Come (ts ws : List ℤ) (room : ℕ) (m : Result Rule) : Type 0 where
 
 abbrev pub come_first : {ts ws : List ℤ} {room : ℕ} (r : Rule) → StepReady ts ws room r → Come ts ws room (given r)
 come_first r ready = record { rule = r; is = refl; ready = ready }
-
--- a refusal ends the line
-pub ended : (m : Result Rule) (step : Rule → Result Rule) (n : ℕ) (ts : List ℤ) → ¬ (n ≡ 0) → Stepped m n ts
-    → Stepped (m >>= step) n ts
-unfolding Stepped ◌>>=◌
-ended (refused k) step n ts some h = h
-ended (given f) step n ts some h = absurd (some h.0)
 
 module _ {ts ws : List ℤ} {room : ℕ} {m : Result Rule} (come : Come ts ws room m) where
   -- the quantifier that is chosen next
@@ -58,42 +51,45 @@ module _ {ts ws : List ℤ} {room : ℕ} {m : Result Rule} (come : Come ts ws ro
   come_stays step stays = record { rule = come.rule; is = then step come.is ∙ stays; ready = come.ready }
 
   -- the line may end here
-  pub come_over : Stepped m 0 ts
+  pub come_over : {u : ⊤} → Stepped m (Ok u) ts
   unfolding Stepped
-  come_over = answered ts 0 come.is (refl, come.ready.has.table)
+  come_over = (come.rule, come.is, come.ready.has.table)
 
-  module _ (step : Rule → Result Rule) (n : ℕ) (us : List ℤ) (answers : Stepped (step come.rule) n us) where
+  module _ (step : Rule → Result Rule) where
     -- the next step's answer is the line's
-    pub answered_next : Stepped (m >>= step) n us
-    unfolding ◌>>=◌
-    answered_next = subst (λ (s : Result Rule). Stepped (s >>= step) n us) (sym come.is) answers
+    pub answered_next : (n : Answer) (us : List ℤ) → Stepped (step come.rule) n us
+        → Stepped (m >>= step) n us
+    answered_next n us h = answered us n (then step come.is) h
 
-    pub come_next : ((r : Rule) → WellFormed r → size r ≤ room → Folded r → Fair room (step r)) → n ≡ 0
-        → (vs : List ℤ) → length us ≡ length ts → length vs ≡ length ws → Come us vs room (m >>= step)
-    unfolding ◌>>=◌
-    come_next fair none vs same_table same_work =
-        subst (λ (s : Result Rule). Come us vs room (s >>= step)) (sym come.is)
-        (go (step come.rule) (fair come.rule come.ready.has.formed come.ready.fits come.ready.folded)
-        answers)
-      where
-        go : (s : Result Rule) → Fair room s → Stepped s n us → Come us vs room s
-        go (refused k) f h = unfold Fair Stepped in absurd (omega (arith, f, h, none))
-        go (given g) f h = unfold Fair Stepped in record {
-          rule = g;
-          is = refl;
+    pub come_next : ((r : Rule) → WellFormed r → size r ≤ room → Folded r → Fair room (step r)) → {u : ⊤}
+        → (us vs : List ℤ) → Stepped (step come.rule) (Ok u) us → length us ≡ length ts → length vs ≡ length ws
+        → Come us vs room (m >>= step)
+    unfolding Stepped Fair
+    come_next fair us vs (f, is, table) same_table same_work =
+        let was = come.ready in
+        let fine = subst (Fair room) is (fair come.rule was.has.formed was.fits was.folded) in
+        record {
+          rule = f;
+          is = then step come.is ∙ is;
           ready = record {
-            has = record { table = h.1; formed = f.0; few = omega (arith, come.ready.has.few, same_table) };
-            folded = f.2;
-            fits = f.1;
-            table_room = same_table ∙ come.ready.table_room;
-            work_room = same_work ∙ come.ready.work_room;
+            has = record { table = table; formed = fine.0; few = omega (arith, was.has.few, same_table) };
+            folded = fine.2;
+            fits = fine.1;
+            table_room = same_table ∙ was.table_room;
+            work_room = same_work ∙ was.work_room;
           };
         }
 
+-- a refusal ends the line
+pub ended : (m : Result Rule) (step : Rule → Result Rule) (e : Refusal) (ts : List ℤ) → Stepped m (Err e) ts
+    → Stepped (m >>= step) (Err e) ts
+unfolding Stepped
+ended m step e ts h = stopped step h
+
 -- the quantifier that is chosen, where it is located
-pub there : (r : Rule) {f : Located} {c : Quantified} → f ≡ There c → LocatedIn r f → Locates r c
+pub there : (r : Rule) {c : Quantified} → LocatedIn r (Some c) → Locates r c
 unfolding LocatedIn
-there r e h = subst (LocatedIn r) e h
+there r h = h
 
 -- ---- one round
 
@@ -122,7 +118,7 @@ module _ (room : ℕ) (r : Rule) where
       then (disjunction_step room) (then (common_step room) (normal_none room r none) ∙ common_none room r none)
       ∙ disjunction_none room r none
 
-  module _ (n : ℕ) (ts : List ℤ) where
+  module _ (n : Answer) (ts : List ℤ) where
     pub numbered_answered : Stepped (to_common >>= disjunction_step room) n ts → Stepped (numbered room r) n ts
     unfolding numbered ◌>>=◌
     numbered_answered h = h
@@ -138,15 +134,15 @@ module _ (room : ℕ) (r : Rule) where
         let stays = for_some_is room r at.quantifier (sym at.quantifier_is ∙ e) at.at in
         round_answered (answered ts n (then (numbered room) stays) h)
 
-    module _ (stop : ¬ (n ≡ 0)) where
-      pub ended_common : Stepped to_common n ts → Stepped (numbered room r) n ts
-      ended_common h = numbered_answered (ended to_common (disjunction_step room) n ts stop h)
+  module _ (e : Refusal) (ts : List ℤ) where
+    pub ended_common : Stepped to_common (Err e) ts → Stepped (numbered room r) (Err e) ts
+    ended_common h = numbered_answered (Err e) ts (ended to_common (disjunction_step room) e ts h)
 
-      pub ended_normal : Stepped to_normal n ts → Stepped (numbered room r) n ts
-      ended_normal h = ended_common (ended to_normal (common_step room) n ts stop h)
+    pub ended_normal : Stepped to_normal (Err e) ts → Stepped (numbered room r) (Err e) ts
+    ended_normal h = ended_common (ended to_normal (common_step room) e ts h)
 
-      pub ended_for_all : Stepped to_for_all n ts → Stepped (round room r) n ts
-      ended_for_all h = round_answered (ended to_for_all (numbered room) n ts stop h)
+    pub ended_for_all : Stepped to_for_all (Err e) ts → Stepped (round room r) (Err e) ts
+    ended_for_all h = round_answered (Err e) ts (ended to_for_all (numbered room) e ts h)
 
 -- ---- rounds
 
@@ -175,59 +171,57 @@ pub record Going (ts ws : List ℤ) (room left : ℕ) (all : Result Rule) : Type
   pub ready : StepReady ts ws room rule
   pub same : all ≡ rounds left room rule
 
-pub going_first : {ts ws : List ℤ} {room : ℕ} (most : ℕ) (r : Rule) → StepReady ts ws room r
-    → Going ts ws room most (rounds most room r)
-going_first most r ready = record { rule = r; ready = ready; same = refl }
+pub going_first : {ts ws : List ℤ} {room left : ℕ} (most : ℕ) (r : Rule) → most ≡ left → StepReady ts ws room r
+    → Going ts ws room left (rounds most room r)
+going_first {room = room} most r e ready = record {
+  rule = r;
+  ready = ready;
+  same = ap (λ (n : ℕ). rounds n room r) e;
+}
 
 module _ {ts ws : List ℤ} {room left : ℕ} {all : Result Rule} (going : Going ts ws room left all) where
   pub going_located : {c : Quantified} → Locates going.rule c → SomeStepLocated ts ws room c
   going_located at = record { rule = going.rule; ready = going.ready; locates = at }
 
-  answered_given : all ≡ given going.rule → Stepped all 0 ts
+  pub going_table : SomeTable ts
+  going_table = record { rule = going.rule; has = going.ready.has }
+
+  answered_given : {u : ⊤} → all ≡ given going.rule → Stepped all (Ok u) ts
   unfolding Stepped
-  answered_given e = answered ts 0 e (refl, going.ready.has.table)
+  answered_given e = (going.rule, e, going.ready.has.table)
 
   -- no round is left
-  pub rounds_over : left ≡ 0 → Stepped all 0 ts
+  pub rounds_over : {u : ⊤} → left ≡ 0 → Stepped all (Ok u) ts
   unfolding rounds
   rounds_over e = answered_given (going.same ∙ ap (λ (n : ℕ). rounds n room going.rule) e)
 
-  -- no quantifier remains
-  pub rounds_end : {f : Located} → 0 < left → f ≡ Nowhere → LocatedIn going.rule f → Stepped all 0 ts
-  rounds_end some e h =
-      answered_given (going.same ∙ by left some)
-    where
-      none : quantified going.rule ≡ false
-      none = quantified_none going.rule (nowhere going.rule e h)
+  -- one is left, and so many after it
+  module _ (after : ℕ) (some : left ≡ suc after) where
+    with_one : {b : Bool} → quantified going.rule ≡ b
+        → all ≡ elim b [ false ↦ given going.rule | true ↦ round room going.rule >>= rounds after room ]
+    with_one {b} e =
+        going.same ∙ ap (λ (n : ℕ). rounds n room going.rule) some ∙ rounds_by after room going.rule b e
 
-      by : (n : ℕ) → 0 < n → rounds n room going.rule ≡ given going.rule
-      by zero h = absurd (omega (arith, h))
-      by (suc n) h = rounds_by n room going.rule false none
+    -- no quantifier remains
+    pub rounds_end : {u : ⊤} → chosen going.rule ≡ nothing → Stepped all (Ok u) ts
+    rounds_end none = answered_given (with_one (quantified_none going.rule none))
 
-  module _ {c : Quantified} (some : 0 < left) (at : Locates going.rule c)
-      (n : ℕ) (us : List ℤ) (answers : Stepped (round room going.rule) n us) where
-    one_more : all ≡ (round room going.rule >>= rounds (left - 1) room)
-    one_more = going.same ∙ by left some (quantified_there going.rule at.at)
-      where
-        by : (n : ℕ) → 0 < n → quantified going.rule ≡ true
-            → rounds n room going.rule ≡ (round room going.rule >>= rounds (n - 1) room)
-        by zero h t = absurd (omega (arith, h))
-        by (suc n) h t =
-            rounds_by n room going.rule true t
-            ∙ ap (λ (k : ℕ). round room going.rule >>= rounds k room) (let e : n ≡ suc n - 1 = omega arith in e)
+    module _ {c : Quantified} (at : Locates going.rule c) where
+      one_more : all ≡ (round room going.rule >>= rounds after room)
+      one_more = with_one (quantified_there going.rule at.at)
 
-    pub round_ended : ¬ (n ≡ 0) → Stepped all n us
-    round_ended stop = answered us n one_more
-        (ended (round room going.rule) (rounds (left - 1) room) n us stop answers)
+      pub round_ended : (e : Refusal) (us : List ℤ) → Stepped (round room going.rule) (Err e) us
+          → Stepped all (Err e) us
+      round_ended e us h = answered us (Err e) one_more (ended (round room going.rule) (rounds after room) e us h)
 
-    pub going_on : n ≡ 0 → (vs : List ℤ) → length us ≡ length ts → length vs ≡ length ws
-        → Going us vs room (left - 1) all
-    unfolding ◌>>=◌
-    going_on none vs same_table same_work =
-        let first = come_first going.rule going.ready in
-        let next = come_next first (round room) n us answers (round_fair room) none vs same_table same_work in
-        record {
-          rule = next.rule;
-          ready = next.ready;
-          same = one_more ∙ ap (λ (s : Result Rule). s >>= rounds (left - 1) room) next.is;
-        }
+      pub going_on : {u : ⊤} (us vs : List ℤ) → Stepped (round room going.rule) (Ok u) us
+          → length us ≡ length ts → length vs ≡ length ws → Going us vs room after all
+      unfolding ◌>>=◌
+      going_on us vs h same_table same_work =
+          let first = come_first going.rule going.ready in
+          let next = come_next first (round room) (round_fair room) us vs h same_table same_work in
+          record {
+            rule = next.rule;
+            ready = next.ready;
+            same = one_more ∙ then (rounds after room) next.is;
+          }

@@ -1,6 +1,6 @@
 -- What the definition's steps come to, by what is chosen: the limits in their order, and the step table.
 -- Assumes nothing.
-use mathlib.Core.Path.{◌≡◌, refl, sym, ◌∙◌, ap, subst}
+use mathlib.Core.Path.{◌≡◌, sym, ◌∙◌, ap, subst}
 use mathlib.Core.Bool.{Bool, true, false, not}
 use mathlib.Core.List.{List}
 use Prim.Native.Nat.{ℕ, ◌<◌, ◌≤◌}
@@ -8,8 +8,6 @@ use native.Mathlib.Omega.{arith}
 use lib.Dec.{T, not_T, leb, le→leb, leb→le}
 use lib.IntN.{ℤ}
 use Rattle.whole.proofs.Tests.{is_false}
-use Rattle.whole.specs.declared.Multiple.{Multiple}
-use Rattle.whole.specs.declared.Multiple.TheVariants as multiple
 use Rattle.rules.specs.Rule.{Quantifier, for_some, for_all, Rule, Some}
 use Rattle.rules.specs.Result.{Result, refused, given, ◌>>=◌, require}
 use Rattle.rules.specs.Fold.{fold}
@@ -22,18 +20,22 @@ use Rattle.rules.specs.Laws.{WellFormed}
 use Rattle.rules.proofs.Refusals.{passed, then}
 use Rattle.rules.proofs.Limits.{replaced_numbers}
 use Rattle.bodies.specs.Body.{Bounded}
-use Rattle.elimination.specs.Stepping.{is_some, LocatedIn, Stepped, sized}
-use Rattle.elimination.specs.declared.locate.Located.{Located}
-use Rattle.elimination.specs.declared.locate.Located.TheVariants.{Nowhere}
+use Rattle.std.specs.Prelude as std
+use Rattle.std.specs.Prelude.{Option, None, Ok, Err}
+use Rattle.std.specs.Prelude.{ok_or}
+use Rattle.tables.specs.Refusals.{number_of}
+use Rattle.tables.specs.declared.refusal.Refusal.{Refusal}
+use Rattle.elimination.specs.Stepping.{Answer, is_some, LocatedIn, Stepped, sized}
 
 -- ---- answers
 
-pub answered : (ts : List ℤ) (n : ℕ) {s t : Result Rule} → s ≡ t → Stepped t n ts → Stepped s n ts
+pub answered : (ts : List ℤ) (n : Answer) {s t : Result Rule} → s ≡ t → Stepped t n ts
+    → Stepped s n ts
 answered ts n e h = subst (λ (s : Result Rule). Stepped s n ts) (sym e) h
 
-pub refusal : (ts : List ℤ) {s : Result Rule} (k : ℕ) → s ≡ refused k → Stepped s k ts
+pub refusal : (ts : List ℤ) {s : Result Rule} (e : Refusal) → s ≡ refused (number_of e) → Stepped s (Err e) ts
 unfolding Stepped
-refusal ts k e = answered ts k e refl
+refusal ts e h = h
 
 -- ---- what each step makes of the chosen quantifier
 
@@ -68,9 +70,9 @@ module _ (r : Rule) (step : For) where
 
 -- ---- no quantifier is chosen
 
-pub nowhere : (r : Rule) {f : Located} → f ≡ Nowhere → LocatedIn r f → chosen r ≡ nothing
+pub nowhere : (r : Rule) → LocatedIn r None → chosen r ≡ nothing
 unfolding LocatedIn
-nowhere r e h = subst (LocatedIn r) e h
+nowhere r h = h
 
 module _ (room : ℕ) (r : Rule) (none : chosen r ≡ nothing) where
   pub normal_none : normal_step room r ≡ given r
@@ -91,13 +93,17 @@ module _ (room : ℕ) (r : Rule) (none : chosen r ≡ nothing) where
 abbrev pub Least : ℕ → ℕ → Type 0
 Least n k = (k ≡ n) × (k ≤ most_period)
 
-pub multiple_over : {n : ℕ} {m : Multiple} → m ≡ multiple.OverLimit → Bounded n m → most_period < n
+-- what an Option says of it, as it is held in a Result
+pub multiple_over : (n : ℕ) (e d : Refusal) (m : Option ℕ) → ok_or m e ≡ Err d → Bounded n m
+    → (d ≡ e) × (most_period < n)
 unfolding Bounded
-multiple_over {n} e h = subst (Bounded n) e h
+multiple_over n e d None is h = (cc, h)
+multiple_over n e d (std.Some k) is h = absurd cc
 
-pub multiple_least : {n k : ℕ} {m : Multiple} → m ≡ multiple.Least k → Bounded n m → Least n k
+pub multiple_least : (n k : ℕ) (e : Refusal) (m : Option ℕ) → ok_or m e ≡ Ok k → Bounded n m → Least n k
 unfolding Bounded
-multiple_least {n} {k} e h = let (same, few) = subst (Bounded n) e h in (same, omega (arith, same, few))
+multiple_least n k e None is h = absurd cc
+multiple_least n k e (std.Some j) is h = let same : j ≡ k = cc in (omega (arith, h.0), omega (arith, h.0, h.1))
 
 -- ---- one is chosen: "numbers come first (5)"
 

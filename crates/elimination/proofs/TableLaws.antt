@@ -1,24 +1,22 @@
--- A table at the start of a lent buffer's words: where its rule stands, and that it is all there.
+-- A table at the start of a lent buffer's words: its rule is a part of it, and is all there.
 -- Assumes nothing.
 use mathlib.Core.Path.{◌≡◌, sym, ◌∙◌, ap}
 use mathlib.Core.List.{List}
-use Prim.Native.Nat.{ℕ, ◌+◌, ◌*◌, ◌<◌, ◌≤◌}
+use Prim.Native.Nat.{ℕ, ◌+◌, ◌<◌, ◌≤◌}
 use native.Mathlib.Omega.{arith}
 use lib.IntN.{ℤ, pos}
-use lib.ListN.{length, get_or, drop}
+use lib.ListN.{length, get_or, drop, length-drop}
 use Rattle.rules.specs.Rule.{Rule}
 use Rattle.rules.specs.Table.{most_words, count}
 use Rattle.rules.specs.Calls.{signed, words}
 use Rattle.rules.proofs.Sizes.{weight, size_is}
-use Rattle.tables.specs.Standing.{Stands, Few}
-use Rattle.tables.proofs.WordLaws.{number_of, words_from, words_length}
-use Rattle.tables.proofs.WordLaws.{part}
+use Rattle.tables.specs.Parts.{RuleIn, PartOf}
+use Rattle.tables.specs.declared.part.Part.{Part}
+use Rattle.tables.proofs.WordLaws.{number_of}
 use Rattle.tables.proofs.Standings.{count_there, size_there, stands_there}
-use Rattle.tables.proofs.Parts.{moved, part_words}
+use Rattle.tables.proofs.Parts.{moved}
 use Rattle.bodies.specs.Body.{BodyOf}
-use Rattle.elimination.specs.Stepping.{HasTable}
-
--- ---- in words
+use Rattle.elimination.specs.Stepping.{HasTable, WholeIn}
 
 module _ {ts : List ℤ} {r : Rule} (has : HasTable ts r) where
   pub words_there : 1 + count r + weight r ≤ length ts
@@ -27,47 +25,50 @@ module _ {ts : List ℤ} {r : Rule} (has : HasTable ts r) where
   pub word_there : 0 < length ts
   word_there = omega (arith, words_there)
 
--- ---- in bytes, once word 0 is read
+  -- word 0 is the count
+  pub counted : (n : ℕ) → get_or ts 0 (pos 0) ≡ signed n → n ≡ count r
+  counted n e = number_of n (count r) (sym e ∙ count_there has.table)
 
-pub record ReadTable (l : List ℕ) (n : ℕ) (r : Rule) : Type 0 where
-  pub has : HasTable (words l) r
-  pub counted : n ≡ count r
+  pub whole_inside : (n : ℕ) → n ≡ count r → (n + 1 ≤ length ts) × (n + 1 ≤ most_words)
+  whole_inside n e = (omega (arith, e, words_there), omega (arith, e, words_there, has.few))
 
-pub read_table : {l : List ℕ} {n : ℕ} {r : Rule} → HasTable (words l) r → get_or (words l) 0 (pos 0) ≡ signed n
-    → ReadTable l n r
-read_table {l} {n} {r} has e = record {
-  has = has;
-  counted = number_of n (count r) (sym e ∙ count_there has.table);
-}
-
-module _ {l : List ℕ} {n : ℕ} {r : Rule} (t : ReadTable l n r) where
-  pub rule_stands : Stands (part l 1) (part l (n + 1)) 0 (n + 1) r
-  rule_stands = moved r (sym (words_from l 1)) bodies_are (omega arith) same_place (stands_there t.has.table)
+  -- the part behind it is the rule
+  pub whole_in : (n : ℕ) {q : Part} → n ≡ count r → PartOf ts 0 (n + 1) q → WholeIn ts r q
+  whole_in n {q} e part = record { at = at; part = same }
     where
-      same_place : count r + 1 ≡ n + 1
-      same_place = omega (arith, t.counted)
+      at_place : n + 1 ≡ count r + 1
+      at_place = omega (arith, e)
 
-      bodies_are : drop (count r + 1) (words l) ≡ part l (n + 1)
-      bodies_are = ap (λ (k : ℕ). drop k (words l)) same_place ∙ sym (words_from l (n + 1))
+      same : PartOf ts 0 (count r + 1) q
+      same = record {
+        entries_are = part.entries_are;
+        bodies_are = part.bodies_are ∙ ap (λ (m : ℕ). drop m ts) at_place;
+        node_is = part.node_is;
+        place_is = part.place_is ∙ at_place;
+      }
 
-  pub bodies_near : n + 1 ≤ most_words
-  bodies_near = omega (arith, t.counted, words_there t.has, t.has.few)
+      at : RuleIn q r
+      at = record {
+        stands = moved r (sym same.entries_are) (sym same.bodies_are) (sym same.node_is) (sym same.place_is)
+            (stands_there has.table);
+        few = record {
+          few_nodes = omega (arith, ap length same.entries_are, length-drop 1 ts, same.node_is, has.few);
+          few_words = omega (
+            arith,
+            ap length same.bodies_are,
+            length-drop (count r + 1) ts,
+            same.place_is,
+            has.few,
+            words_there,
+          );
+        };
+        formed = has.formed;
+      }
 
-  -- in bytes: the entries start behind word 0, the bodies behind the entries
-  pub starts_inside : (4 ≤ length l) × ((n + 1) * 4 ≤ length l)
-  starts_inside =
-      let there : n + 1 ≤ length (words l) = omega (arith, t.counted, words_there t.has) in
-      (omega (arith, there, words_length l), omega (arith, there, words_length l))
-
-  pub rule_few : Few (part l 1) (part l (n + 1)) 0 (n + 1)
-  rule_few = record {
-    few_nodes = omega (arith, part_words l 1, t.has.few);
-    few_words = omega (arith, part_words l (n + 1), t.has.few, t.counted, words_there t.has);
-  }
-
-  pub rule_body : (end : ℕ) → end ≡ weight r → BodyOf (part l (n + 1)) end 0 r
-  rule_body end e = record {
-    bodied = record { after = rule_stands.bodies_after; begins = rule_stands.bodies };
-    formed = t.has.formed;
+module _ {ts : List ℤ} {r : Rule} {q : Part} (w : WholeIn ts r q) where
+  pub whole_body : (end : ℕ) → end ≡ weight r → BodyOf (words q.bodies.now) end q.node r
+  whole_body end e = record {
+    bodied = record { after = w.at.stands.bodies_after; begins = w.at.stands.bodies };
+    formed = w.at.formed;
     ends = e;
   }

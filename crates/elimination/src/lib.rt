@@ -2,6 +2,7 @@
 #![tactic(auto)]
 
 pub mod locate;
+pub mod parts;
 pub mod rebuild;
 pub mod rounds;
 pub mod step;

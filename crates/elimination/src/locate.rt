@@ -1,10 +1,14 @@
 // Where the chosen quantifier of a step table stands.
-ghost use Rattle.rules.specs.Rule.{Rule};
+ghost use Rattle.std.specs.Prelude.{◌≡◌};
+ghost use Rattle.rules.specs.Rule.{Quantifier, Rule};
 ghost use Rattle.rules.specs.Calls.{words as words_of};
-ghost use Rattle.elimination.specs.Stepping.{HasTable, SomeTable, LocatedIn};
+ghost use Rattle.tables.specs.Kinds.{bind_kind};
+ghost use Rattle.elimination.specs.Stepping.{HasTable, SomeTable, is_some, LocatedIn};
 
+use crate::parts;
 use bodies::span;
-use tables::quantifiers::Found;
+use tables::kind::Kind;
+use tables::quantifiers::Spot;
 use tables::{quantifiers, words};
 
 // Its number and its place, whether it is a for some, its setting, and how many words its body has.
@@ -17,29 +21,25 @@ pub struct Quantified {
     pub end: usize,
 }
 
-#[derive(Clone, Copy)]
-pub enum Located {
-    Nowhere,
-    There(Quantified),
+// Whether a quantifier of this kind is a for some.
+fn for_some(kind: Kind) -> bool
+    ensures { (q : Quantifier) → kind ≡ bind_kind q → result ≡ is_some q }
+{
+    matches!(kind, Kind::ForSome)
 }
 
 // "its body has none", so that it is a rule without quantifiers.
-pub fn locate(table: &[u8]) -> Located
+pub fn locate(table: &[u8]) -> Option<Quantified>
     requires { SomeTable (words_of table.now) }
     ensures { (r : Rule) → HasTable (words_of table.now) r → LocatedIn r result }
 {
-    let found = quantifiers::last(table, words::natural(table, 0));
-    let Found::At(node, place) = found else {
-        return Located::Nowhere;
-    };
-    let entry = (node + 2) * 4;
-    let start = (place + 2) * 4;
-    let body = span::span(&table[entry..], &table[start..], node + 1, place + 2);
-    Located::There(Quantified {
-        node: node,
-        place: place,
-        some: words::natural(table, place) == 8,
+    let Spot { node, place } = quantifiers::last(table, words::natural(table, 0))?;
+    let extent = span::extent(parts::body(table, node, place));
+    Some(Quantified {
+        node,
+        place,
+        some: for_some(Kind::at(table, place)),
         setting: words::natural(table, place + 1),
-        end: body.words,
+        end: extent.words,
     })
 }

@@ -21,11 +21,11 @@ use Rattle.rules.proofs.Bytes.{length_bytes, rule_back, rule_forth}
 use Rattle.rules.proofs.Soundness.{sound}
 use Rattle.rules.proofs.Verdicts.{closed_right}
 use Rattle.tables.specs.Checks.{Verdict}
-use Rattle.tables.specs.declared.check.Checked.{Checked}
-use Rattle.tables.specs.declared.check.Checked.TheVariants.{Not}
+use Rattle.tables.specs.declared.refusal.Refusal.{Refusal}
+use Rattle.std.specs.Prelude.{Err}
 use Rattle.tables.proofs.Passed.{TableOf}
 use Rattle.elimination.specs.Stepping.{Stepped}
-use Rattle.leaveoff.specs.Outcome.{answer_of, outcome_of, steps_of, RefusalNumber, Means, Eliminates, Fits}
+use Rattle.leaveoff.specs.Outcome.{answer_of, outcome_of, steps_of, Means, Eliminates, Fits}
 use Rattle.leaveoff.specs.declared.answer.Answer as declared
 use Rattle.leaveoff.proofs.StepNumbers.{steps_by}
 use Rattle.leaveoff.proofs.FirstLaws.{check_refused}
@@ -38,10 +38,10 @@ unfolding steps_of
 steps_are m t = then (eliminate m) t.decodes
 
 -- the check's refusal is elimination's
-pub steps_refused : (l : List ℕ) (m : ℕ) {v : Checked} {n : ℕ} (k : ℕ) (ts : List ℤ) → v ≡ Not n → Verdict (rule_of l) v
-    → RefusalNumber v k → Stepped (steps_of l m) k ts
+pub steps_refused : (l : List ℕ) (m : ℕ) (e : Refusal) (ts : List ℤ) → Verdict (rule_of l) (Err e)
+    → Stepped (steps_of l m) (Err e) ts
 unfolding steps_of
-steps_refused l m k ts e h i = check_refused l (eliminate m) k ts e h i
+steps_refused l m e ts h = check_refused l (eliminate m) e ts h
 
 -- what elimination answers of a rule that the bytes decode to
 record Answered (table : List ℕ) (r : ℕ) (f : Rule) : Type 0 where

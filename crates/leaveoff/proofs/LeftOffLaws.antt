@@ -1,7 +1,7 @@
 -- What the leave-off test's outcome says: it is one, and its verdict tells whether the line matters.
 -- Assumes nothing.
-use mathlib.Core.Path.{◌≡◌, refl, sym, ◌∙◌, ap, ap₂, subst}
-use mathlib.Core.Bool.{Bool, true, false, ◌&&◌, and-false}
+use mathlib.Core.Path.{◌≡◌, refl, sym, ◌∙◌, ap, subst}
+use mathlib.Core.Bool.{Bool, true, false}
 use mathlib.Core.List.{List}
 use mathlib.Core.Logic.{inl, inr}
 use Prim.Native.Nat.{ℕ, ◌<◌, ◌≤◌}
@@ -9,11 +9,11 @@ use native.Mathlib.Omega.{arith}
 use lib.Dec.{T, leb}
 use lib.IntN.{ℤ, pos, negsuc, nat_abs}
 use lib.ListN.{length}
-use lib.Signed.{lt_z, non_neg}
+use lib.Signed.{non_neg}
 use mir.Syntax.{w32, w64}
 use mir.Val.{SFits, to_z, of_z, Fits as Natural}
 use mir.Facts.{to_z-of_z}
-use borrow.Author.Tests.{ltb-true, ltb-false, le-leb, lt-leb}
+use borrow.Author.Tests.{le-leb, lt-leb}
 use Rattle.rules.specs.Rule.{Rule}
 use Rattle.rules.specs.Result.{Result, refused, given, ◌>>=◌, require}
 use Rattle.rules.specs.Table.{size, is_setting}
@@ -30,34 +30,20 @@ use Rattle.rules.proofs.Soundness.{sound}
 use Rattle.rules.proofs.Verdicts.{question_formed, natural_setting, asked, leave_off_right}
 use Rattle.tables.specs.Checks as Checks
 use Rattle.tables.specs.Standing.{TableAt}
-use Rattle.tables.specs.declared.check.Checked.{Checked}
-use Rattle.tables.specs.declared.check.Checked.TheVariants.{Not}
+use Rattle.std.specs.Prelude.{Err}
+use Rattle.tables.specs.Refusals.{number_of}
+use Rattle.tables.specs.declared.refusal.Refusal.{Refusal}
+use Rattle.tables.specs.declared.refusal.Refusal.TheVariants.{Room, Setting}
 use Rattle.tables.proofs.Passed.{TableOf, table_formed}
-use Rattle.elimination.specs.Stepping.{InPlace, Stepped, FirstReady}
-use Rattle.elimination.proofs.StepLaws.{answered}
-use Rattle.leaveoff.specs.Outcome.{answer_of, outcome_of, test_of, RefusalNumber, Tells, TestsLine, Fits}
+use Rattle.elimination.specs.Stepping.{Answer, InPlace, Stepped, FirstReady}
+use Rattle.elimination.proofs.StepLaws.{answered, refusal}
+use Rattle.leaveoff.specs.Outcome.{answer_of, outcome_of, test_of, Tells, TestsLine, Fits}
 use Rattle.leaveoff.specs.declared.answer.Answer as declared
 use Rattle.leaveoff.proofs.StepNumbers.{tests_by}
 use Rattle.leaveoff.proofs.FirstLaws.{check_refused}
 use Rattle.leaveoff.proofs.LentLaws.{room_there, Gives, outcome_once, answer_fits}
 
 -- ---- a setting
-
-below_one : (u : ℤ) → lt_z u (pos 1) ≡ true → is_setting u ≡ false
-unfolding is_setting
-below_one (pos n) e = ap (λ (b : Bool). b && leb n 6) (lt-leb 1 n (ltb-true n 1 e))
-below_one (negsuc n) e = refl
-
-over_six : (u : ℤ) → lt_z (pos 6) u ≡ true → is_setting u ≡ false
-unfolding is_setting
-over_six (pos n) e = ap (λ (b : Bool). leb 1 n && b) (lt-leb n 6 (ltb-true 6 n e)) ∙ and-false (leb 1 n)
-over_six (negsuc n) e = refl
-
-between : (u : ℤ) → lt_z u (pos 1) ≡ false → lt_z (pos 6) u ≡ false → is_setting u ≡ true
-unfolding is_setting
-between (pos n) e f =
-    ap₂ ◌&&◌ (le-leb 1 n (ltb-false n 1 e)) (le-leb n 6 (ltb-false 6 n f))
-between (negsuc n) e f = let no : ◌≡◌ {A = ℕ} 0 1 = cc in absurd (omega arith)
 
 -- a setting as the 32 bits that it is handed on in
 abbrev pub again : ℤ → ℤ
@@ -66,15 +52,6 @@ again v = to_z w32 (of_z w32 v)
 module _ (v : ℤ) (fits : SFits w32 v) where
   same_setting : is_setting v ≡ is_setting (again v)
   same_setting = sym (ap is_setting (to_z-of_z fits))
-
-  pub too_low : lt_z (again v) (pos 1) ≡ true → false ≡ is_setting v
-  too_low e = sym (same_setting ∙ below_one (again v) e)
-
-  pub too_high : lt_z (pos 6) (again v) ≡ true → false ≡ is_setting v
-  too_high e = sym (same_setting ∙ over_six (again v) e)
-
-  pub in_range : lt_z (again v) (pos 1) ≡ false → lt_z (pos 6) (again v) ≡ false → true ≡ is_setting v
-  in_range e f = sym (same_setting ∙ between (again v) e f)
 
   -- as it was found
   module _ {b : Bool} (found : b ≡ is_setting (again v)) where
@@ -111,17 +88,18 @@ unfolding test_of
 test_is v m t = then (leave_off m v) t.decodes
 
 -- the check's refusal is the test's
-pub test_refused : (l : List ℕ) (u : ℤ) (m : ℕ) {v : Checked} {n : ℕ} (k : ℕ) (ts : List ℤ) → v ≡ Not n
-    → Checks.Verdict (rule_of l) v → RefusalNumber v k → Stepped (test_of l u m) k ts
+pub test_refused : (l : List ℕ) (u : ℤ) (m : ℕ) (e : Refusal) (ts : List ℤ) → Checks.Verdict (rule_of l) (Err e)
+    → Stepped (test_of l u m) (Err e) ts
 unfolding test_of
-test_refused l u m k ts e h i = check_refused l (leave_off m u) k ts e h i
+test_refused l u m e ts h = check_refused l (leave_off m u) e ts h
 
 -- "leave-off setting is not 1 to 6" (8)
-pub no_setting : (room : ℕ) (v : ℤ) (r : Rule) (ts : List ℤ) → is_setting v ≡ false → Stepped (leave_off room v r) 8 ts
-unfolding leave_off Stepped require ◌>>=◌
+pub no_setting : (room : ℕ) (v : ℤ) (r : Rule) (ts : List ℤ) → is_setting v ≡ false
+    → Stepped (leave_off room v r) (Err Setting) ts
+unfolding leave_off number_of require ◌>>=◌
 no_setting room v r ts e =
-    subst (λ (b : Bool). Stepped (require b 8 >>= λ u. require (leb (size (question (nat_abs v) r)) room) 6 >>= λ w.
-    eliminate room (question (nat_abs v) r)) 8 ts) (sym e) refl
+    refusal ts Setting (ap (λ (b : Bool). require b 8 >>= λ u.
+    require (leb (size (question (nat_abs v) r)) room) 6 >>= λ w. eliminate room (question (nat_abs v) r)) e)
 
 module _ (room v : ℕ) (r : Rule) (setting : T (is_setting (pos v))) where
   -- the question, once the setting is one
@@ -131,13 +109,14 @@ module _ (room v : ℕ) (r : Rule) (setting : T (is_setting (pos v))) where
   asks = then _ (passed (is_setting (pos v)) 8 setting)
 
   -- "must fit the room before folding (6)"
-  pub too_large : {s : ℕ} (ts : List ℤ) → s ≡ size (question v r) → room < s → Stepped (leave_off room (pos v) r) 6 ts
-  unfolding Stepped require ◌>>=◌
+  pub too_large : {s : ℕ} (ts : List ℤ) → s ≡ size (question v r) → room < s
+      → Stepped (leave_off room (pos v) r) (Err Room) ts
+  unfolding number_of require ◌>>=◌
   too_large ts e h =
       let refuses : leb (size (question v r)) room ≡ false = lt-leb (size (question v r)) room (omega (arith, e, h)) in
-      answered ts 6 (asks ∙ ap (λ (b : Bool). require b 6 >>= λ w. eliminate room (question v r)) refuses) refl
+      refusal ts Room (asks ∙ ap (λ (b : Bool). require b 6 >>= λ w. eliminate room (question v r)) refuses)
 
-  pub asked_stepped : {s : ℕ} (k : ℕ) (ts : List ℤ) → s ≡ size (question v r) → s ≤ room
+  pub asked_stepped : {s : ℕ} (k : Answer) (ts : List ℤ) → s ≡ size (question v r) → s ≤ room
       → Stepped (eliminate room (question v r)) k ts → Stepped (leave_off room (pos v) r) k ts
   unfolding require ◌>>=◌
   asked_stepped k ts e h s =

@@ -15,9 +15,12 @@ use Rattle.rules.specs.Answer.{Answer, refusal, verdict_of, occurs, bits_of, set
 use Rattle.rules.specs.Laws.{WellFormed}
 use Rattle.rules.specs.Calls.{words, bytes_of, room, Outcome, table_bytes, outcome}
 use Rattle.rules.proofs.Numbers.{By}
+use Rattle.std.specs.Prelude.{⊤, Ok, Err}
+use Rattle.tables.specs.Refusals.{number_of}
+use Rattle.tables.specs.declared.refusal.Refusal.{Refusal}
 use Rattle.tables.specs.Standing.{TableAt}
 use Rattle.tables.proofs.WordLaws.{words_length, words_take}
-use Rattle.elimination.specs.Stepping.{Stepped, FirstReady}
+use Rattle.elimination.specs.Stepping.{Answer as Steps, Stepped, FirstReady}
 use Rattle.leaveoff.specs.Outcome.{answer_of, outcome_of, packed, unpacked, Fits, Leaves}
 use Rattle.leaveoff.specs.Result.{Held, Ended}
 use Rattle.leaveoff.specs.declared.answer.Answer as declared
@@ -69,30 +72,31 @@ abbrev pub Gives : ℕ → Result Rule → Type 0
 Gives r x = (f : Rule) → x ≡ given f → InRoom r f
 
 -- the steps left p of the part of l that has the room
-pub part_ended : (m : ℕ) (x : Result Rule) (n r : ℕ) (l p : List ℕ) → By m x → Gives r x → r ≤ most_words
+pub part_ended : (x : Result Rule) (n : Steps) (r : ℕ) (l p : List ℕ) → Gives r x → r ≤ most_words
     → r * 4 ≤ length l → length p ≡ length (take (r * 4) l) → Stepped x n (words p)
     → Ended x n (words (p ++ drop (r * 4) l))
-unfolding By Stepped Ended
-part_ended m (refused k) n r l p by fit most inside same s = (s, by.0)
-part_ended m (given f) n r l p by fit most inside same s =
-    let in_room = fit f refl in (
-      s.0,
+unfolding Stepped Ended
+part_ended x (Err e) r l p fit most inside same s = s
+part_ended x (Ok u) r l p fit most inside same (f, e, at) =
+    let in_room = fit f e in (
+      f,
+      e,
       record {
-        table = whole_table p (drop (r * 4) l) r (same ∙ sym (part_length l (r * 4) inside)) s.1;
+        table = whole_table p (drop (r * 4) l) r (same ∙ sym (part_length l (r * 4) inside)) at;
         formed = in_room.formed;
         most = omega (arith, in_room.fits, most);
       },
     )
 
-pub end_given : (x : Result Rule) (n : ℕ) (ts : List ℤ) → Ended x n ts → n ≡ 0 → (f : Rule) × (x ≡ given f) × Held ts f
+pub end_given : (x : Result Rule) {n : Steps} {u : ⊤} (ts : List ℤ) → n ≡ Ok u → Ended x n ts
+    → (f : Rule) × (x ≡ given f) × Held ts f
 unfolding Ended
-end_given (refused k) n ts e z = absurd (omega (arith, e.0, e.1, z))
-end_given (given f) n ts e z = (f, refl, e.1)
+end_given x ts is e = subst (λ (n : Steps). Ended x n ts) is e
 
-pub end_refused : (x : Result Rule) (n : ℕ) (ts : List ℤ) → Ended x n ts → ¬ (n ≡ 0) → x ≡ refused n
+pub end_refused : (x : Result Rule) {n : Steps} {e : Refusal} (ts : List ℤ) → n ≡ Err e → Ended x n ts
+    → x ≡ refused (number_of e)
 unfolding Ended
-end_refused (refused k) n ts e some = ap refused (sym e.0)
-end_refused (given f) n ts e some = absurd (some e.0)
+end_refused x ts is h = subst (λ (n : Steps). Ended x n ts) is h
 
 -- ---- the outcome
 

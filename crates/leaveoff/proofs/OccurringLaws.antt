@@ -10,16 +10,15 @@ use lib.Dec.{eqb, ltb}
 use lib.IntN.{ℤ, pos}
 use Rattle.whole.specs.Integers.{eq_ℤ}
 use Rattle.rules.specs.Sum.{Sum, has, factor}
-use Rattle.rules.specs.Rule.{Test, Rule, Constant, Join, Not, Literal, Bind}
-use Rattle.rules.specs.Literals.{some_literal, gather}
+use Rattle.rules.specs.Rule.{Test, Rule}
 use Rattle.rules.specs.Answer.{occurs, settings_of}
 use Rattle.rules.specs.Calls.{signed}
 use Rattle.tables.specs.Settings.{IsSet}
 use Rattle.tables.proofs.SettingLaws.{no_settings, same_settings, settings_are}
 use Rattle.tables.proofs.WordLaws.{signed_low, signed_high}
 use Rattle.bodies.specs.Cursor.{literals_of}
-use Rattle.bodies.proofs.ScanLaws.{Passed}
-use Rattle.steps.proofs.NumberLaws.{some_of, some_append}
+use Rattle.bodies.proofs.LiteralsLaws.{Passed}
+use Rattle.bodies.proofs.LiteralsLaws.{some_of, some_append, some_gathered}
 
 -- ---- the settings of one literal
 
@@ -112,18 +111,9 @@ more_occur r t s ks i =
     (some_append (λ t s. has v s) ks ((t, s) ∷ [])
     ∙ ap (λ (b : Bool). some_of (λ t s. has v s) ks || b) (or-false (has v s))))
 
-some_literals : (q : Test → Sum → Bool) (a : Rule) → some_of q (literals_of a) ≡ some_literal q a
-unfolding some_literal some_of literals_of gather
-some_literals q (Constant b) = refl
-some_literals q (Join j a b) =
-    some_append q (literals_of a) (literals_of b) ∙ ap₂ ◌||◌ (some_literals q a) (some_literals q b)
-some_literals q (Not a) = some_literals q a
-some_literals q (Literal t s) = or-false (q t s)
-some_literals q (Bind x v a) = some_literals q a
-
 pub settings_found : (r : ℕ) (a : Rule) → Occurring r (literals_of a) → r ≡ settings_of a
 unfolding occurs
 settings_found r a i =
     settings_are r a
     (same_settings r (λ v. some_of (λ t s. has v s) (literals_of a)) (λ v. occurs v a) i
-    (λ v h k. some_literals (λ t s. has v s) a))
+    (λ v h k. sym (some_gathered (λ t s. has v s) a)))

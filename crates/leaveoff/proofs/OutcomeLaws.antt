@@ -10,6 +10,7 @@ use lib.Dec.{T}
 use lib.IntN.{ℤ}
 use mir.Syntax.{w32}
 use mir.Val.{SFits, to_z, of_z}
+use mir.Facts.{to_z-of_z}
 use Rattle.rules.specs.Result.{Result, refused, given, ◌>>=◌}
 use Rattle.rules.specs.Match.{matching}
 use Rattle.rules.specs.Answer.{Answer, match_answer}
@@ -17,9 +18,7 @@ use Rattle.rules.specs.Calls.{rule_of, matched}
 use Rattle.rules.proofs.Refusals.{parts}
 use Rattle.rules.proofs.Numbers.{By, matching_by}
 use Rattle.rules.proofs.Meaning.{matching_right}
-use Rattle.literals.proofs.Literals.{values_again}
-use Rattle.matcher.specs.Outcome.{matching_of, result_of}
-use Rattle.matcher.specs.declared.outcome.Matched.{Matched}
+use Rattle.matcher.specs.Outcome.{matching_of}
 use Rattle.leaveoff.specs.Outcome.{answer_of, SaysWhether, packed, unpacked, Fits}
 use Rattle.leaveoff.specs.declared.answer.Answer as declared
 
@@ -54,6 +53,10 @@ packed_back a f =
     ∙ ap (answer a.number a.verdict a.words) settings_back
 
 -- ---- matching
+
+-- a value as it is handed on
+abbrev again : ℤ → ℤ
+again v = to_z w32 (of_z w32 v)
 
 -- any two answers that the promise admits are equal
 pub matched_once : (l : List ℕ) (s1 s2 s3 s4 s5 s6 : ℤ) (a b : declared.Answer)
@@ -94,24 +97,28 @@ module _ (l : List ℕ) (s1 s2 s3 s4 s5 s6 : ℤ) where
       go (given true) b = fits 0 1 (omega arith) (omega arith)
       go (given false) b = fits 0 2 (omega arith) (omega arith)
 
--- an answer to the values as they are handed on is one to the values as they were given
+-- six values as they are handed on are those that were given
+values_again : {s1 s2 s3 s4 s5 s6 : ℤ}
+    → SFits w32 s1 → SFits w32 s2 → SFits w32 s3 → SFits w32 s4 → SFits w32 s5 → SFits w32 s6
+    → (again s1 ∷ again s2 ∷ again s3 ∷ again s4 ∷ again s5 ∷ again s6 ∷ []) ≡ (s1 ∷ s2 ∷ s3 ∷ s4 ∷ s5 ∷ s6 ∷ [])
+values_again f1 f2 f3 f4 f5 f6 =
+    rw (to_z-of_z f1, to_z-of_z f2, to_z-of_z f3, to_z-of_z f4, to_z-of_z f5, to_z-of_z f6) refl
+
+-- so an answer to the one is an answer to the other
 pub matched_again : (l : List ℕ) {s1 s2 s3 s4 s5 s6 : ℤ} {a : Answer}
     → SFits w32 s1 → SFits w32 s2 → SFits w32 s3 → SFits w32 s4 → SFits w32 s5 → SFits w32 s6
-    → a ≡ matched l (to_z w32 (of_z w32 s1)) (to_z w32 (of_z w32 s2)) (to_z w32 (of_z w32 s3)) (to_z w32 (of_z w32 s4))
-    (to_z w32 (of_z w32 s5)) (to_z w32 (of_z w32 s6))
+    → a ≡ matched l (again s1) (again s2) (again s3) (again s4) (again s5) (again s6)
     → a ≡ matched l s1 s2 s3 s4 s5 s6
 unfolding matched
 matched_again l f1 f2 f3 f4 f5 f6 e =
     e ∙ ap (λ (vs : List ℤ). match_answer (rule_of l >>= matching vs)) (values_again f1 f2 f3 f4 f5 f6)
 
 -- an answer that says what matching gave: the definition's, and it tells whether the rule holds
-pub matched_answer : (l : List ℕ) {s1 s2 s3 s4 s5 s6 : ℤ} {a : Answer} {v m : Matched}
-    → SFits w32 s1 → SFits w32 s2 → SFits w32 s3 → SFits w32 s4 → SFits w32 s5 → SFits w32 s6
-    → v ≡ m → a ≡ match_answer (result_of m)
-    → result_of v ≡ matching_of l (to_z w32 (of_z w32 s1) ∷ to_z w32 (of_z w32 s2) ∷ to_z w32 (of_z w32 s3)
-    ∷ to_z w32 (of_z w32 s4) ∷ to_z w32 (of_z w32 s5) ∷ to_z w32 (of_z w32 s6) ∷ [])
+pub matched_answer : (l : List ℕ) {s1 s2 s3 s4 s5 s6 : ℤ} {a : Answer} (x : Result Bool)
+    → SFits w32 s1 → SFits w32 s2 → SFits w32 s3 → SFits w32 s4 → SFits w32 s5 → SFits w32 s6 → a ≡ match_answer x
+    → x ≡ matching_of l (again s1 ∷ again s2 ∷ again s3 ∷ again s4 ∷ again s5 ∷ again s6 ∷ [])
     → (a ≡ matched l s1 s2 s3 s4 s5 s6) × SaysWhether l (s1 ∷ s2 ∷ s3 ∷ s4 ∷ s5 ∷ s6 ∷ []) a
 unfolding matched matching_of
-matched_answer l {s1} {s2} {s3} {s4} {s5} {s6} f1 f2 f3 f4 f5 f6 i e g =
-    let is = matched_again l f1 f2 f3 f4 f5 f6 (e ∙ ap match_answer (ap result_of (sym i) ∙ g)) in
+matched_answer l {s1} {s2} {s3} {s4} {s5} {s6} x f1 f2 f3 f4 f5 f6 e g =
+    let is = matched_again l f1 f2 f3 f4 f5 f6 (e ∙ ap match_answer g) in
     (is, subst (SaysWhether l (s1 ∷ s2 ∷ s3 ∷ s4 ∷ s5 ∷ s6 ∷ [])) (sym is) (says_whether l s1 s2 s3 s4 s5 s6))

@@ -22,7 +22,7 @@ use Rattle.leaveoff.specs.Outcome.{steps_of, test_of}
 
 -- ---- the step tables
 
-pub step_table_by : (room : ℕ) (r : Rule) → By 7 (step_table room r)
+step_table_by : (room : ℕ) (r : Rule) → By 7 (step_table room r)
 unfolding By step_table
 step_table_by room r =
     by_test 7 (not (some_literal over_limit r)) 5 (omega arith) (omega arith) _

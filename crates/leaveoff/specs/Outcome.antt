@@ -10,13 +10,19 @@ use Rattle.rules.specs.Match.{choice}
 use Rattle.rules.specs.Answer.{Answer, occurs}
 use Rattle.rules.specs.Laws.{Same, QuantifierFree, free, Closed, Matters, MayGo}
 use Rattle.rules.specs.Calls.{Outcome, rule_of}
-use Rattle.tables.specs.declared.check.Checked.{Checked}
-use Rattle.tables.specs.declared.check.Checked.TheVariants.{Table, Not}
 use Rattle.leaveoff.specs.declared.answer.Answer as declared
+use Rattle.leaveoff.specs.declared.verdict.Verdict.{Verdict}
+use Rattle.leaveoff.specs.declared.verdict.Verdict.TheVariants.{True, False, Open}
 
 -- the paper's number and values of an answer
 abbrev pub answer_of : declared.Answer → Answer
 answer_of a = record { number = a.number; verdict = a.verdict; words = a.words; settings = a.settings }
+
+-- 1 true, 2 false, 3 open
+unfoldable pub verdict_number : Verdict → ℕ
+verdict_number True = 1
+verdict_number False = 2
+verdict_number Open = 3
 
 -- what matching answers: a verdict, and no table
 abbrev pub verdict_alone : ℕ → Answer
@@ -37,11 +43,6 @@ outcome_of a output work = record { answer = answer_of a; output = output; work 
 unfoldable pub steps_of : List ℕ → ℕ → Result Rule
 unfolding rule_of eliminate ◌>>=◌
 steps_of table room = rule_of table >>= eliminate room
-
--- the number of a check's refusal
-unfoldable pub RefusalNumber : Checked → ℕ → Type 0
-RefusalNumber (Table n) k = k ≡ 0
-RefusalNumber (Not m) k = k ≡ m
 
 -- demand 3: whenever elimination answers, the table that it leaves has no quantifier, names only settings free in the
 -- rule, and holds exactly when the rule does, at every choice; where nothing is free the verdict is 1 or 2, and right

@@ -4,7 +4,7 @@ ghost use Rattle.rules.specs.Answer.{refusal};
 ghost use Rattle.leaveoff.specs.Outcome.{answer_of, verdict_alone, packed, Fits};
 
 // Its number, 0 where the call answered; a verdict (1 true, 2 false, 3 open); the words of the result; and the settings
-// that occur in it, setting v as bit v - 1.
+// that occur in it, setting v as bit v - 1. Numbers, since these are the 64 bits that C is answered.
 #[derive(Clone, Copy)]
 pub struct Answer {
     pub number: u32,
@@ -25,7 +25,7 @@ pub fn refused(number: u32) -> Answer
     }
 }
 
-// What matching answers: its verdict alone.
+// What matching answers: its verdict alone, by its number, as the answer has it.
 pub fn matched(verdict: u32) -> Answer
     ensures { answer_of result ≡ verdict_alone verdict }
 {

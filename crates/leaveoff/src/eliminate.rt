@@ -7,23 +7,16 @@ ghost use Rattle.leaveoff.specs.Outcome.{answer_of, outcome_of, Eliminates, step
 use crate::answer::Answer;
 use crate::making;
 use elimination::rebuild;
-use tables::check::Checked;
+use tables::refusal::Refusal;
 use tables::{check, words};
 
-// The number of the answer; where it is 0, the result's table is at the start of `out`. Both buffers have exactly the
-// room.
-fn stepped(t: &[u8], out: &mut [u8], work: &mut [u8], room: usize) -> u32
+// Where it is not refused, the result's table is at the start of `out`. Both buffers have exactly the room.
+fn stepped(t: &[u8], out: &mut [u8], work: &mut [u8], room: usize) -> Result<(), Refusal>
     requires { FirstReady (words_of out.old) (words_of work.old) room }
     ensures { Stepped (steps_of t.now room) result (words_of out.new) }
 {
-    let checked = check::check(t);
-    let Checked::Table(n) = checked else {
-        return making::number(checked);
-    };
-    let first = rebuild::first(t, n, out, work, room);
-    if first != 0 {
-        return first;
-    }
+    check::check(t)?;
+    rebuild::first(t, out, work, room)?;
     making::all_rounds(out, work, room)
 }
 
@@ -35,6 +28,6 @@ pub fn eliminate(t: &[u8], out: &mut [u8], work: &mut [u8]) -> Answer
 {
     let room = words::room(out.len(), work.len());
     let end = room * 4;
-    let number = stepped(t, &mut out[..end], &mut work[..end], room);
-    making::leave(number, out, work)
+    let made = stepped(t, &mut out[..end], &mut work[..end], room);
+    making::leave(made, out, work)
 }

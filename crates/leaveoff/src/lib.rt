@@ -8,3 +8,4 @@ pub mod leave_off;
 mod making;
 pub mod matching;
 mod result;
+mod verdict;

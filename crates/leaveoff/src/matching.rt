@@ -5,17 +5,17 @@ ghost use Rattle.leaveoff.specs.Outcome.{answer_of, SaysWhether};
 
 use crate::answer;
 use crate::answer::Answer;
+use crate::verdict::Verdict;
 use matcher::outcome;
-use matcher::outcome::Matched;
 
-// Matching, on any bytes and any six values.
+// Matching, on any bytes and any six values: six numbers, as C hands them on.
 pub fn matches(t: &[u8], s1: i32, s2: i32, s3: i32, s4: i32, s5: i32, s6: i32) -> Answer
     ensures result_value { answer_of result ≡ matched t.now s1 s2 s3 s4 s5 s6 }
     ensures says_whether { SaysWhether t.now (s1 ∷ s2 ∷ s3 ∷ s4 ∷ s5 ∷ s6 ∷ []) (answer_of result) }
 {
-    match outcome::matches(t, s1, s2, s3, s4, s5, s6) {
-        Matched::Refused(k) => answer::refused(k),
-        Matched::Holds => answer::matched(1),
-        Matched::Fails => answer::matched(2),
+    match outcome::matches(t, &[s1, s2, s3, s4, s5, s6]) {
+        Ok(true) => answer::matched(Verdict::True.number()),
+        Ok(false) => answer::matched(Verdict::False.number()),
+        Err(refusal) => answer::refused(refusal.number()),
     }
 }

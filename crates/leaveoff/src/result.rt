@@ -3,46 +3,35 @@ ghost use Rattle.std.specs.Prelude.{◌≡◌, Bool, not, ◌&&◌, ◌||◌, Li
 ghost use Rattle.rules.specs.Sum.{Sum, has};
 ghost use Rattle.rules.specs.Rule.{Test, Rule};
 ghost use Rattle.rules.specs.Result.{given};
-ghost use Rattle.rules.specs.Table.{count, encode};
+ghost use Rattle.rules.specs.Table.{encode};
 ghost use Rattle.rules.specs.Answer.{verdict_of, settings_of, table_answer};
 ghost use Rattle.rules.specs.Calls.{words as words_of, bytes_of};
-ghost use Rattle.rules.proofs.Sizes.{weight};
+ghost use Rattle.tables.specs.Kinds.{kind_of};
 ghost use Rattle.tables.specs.Settings.{IsSet};
 ghost use Rattle.bodies.specs.Body.{BodyOf, SomeBody};
 ghost use Rattle.bodies.specs.Cursor.{LiteralAt, SomeLiteral};
 ghost use Rattle.elimination.specs.Stepping.{HasTable, SomeTable};
-ghost use Rattle.leaveoff.specs.Outcome.{answer_of};
+ghost use Rattle.leaveoff.specs.Outcome.{answer_of, verdict_number};
 ghost use Rattle.leaveoff.specs.Result.{Held, SomeHeld};
 
 use crate::answer::Answer;
-use bodies::span::Extent;
-use bodies::{cursor, span};
+use crate::verdict::Verdict;
+use bodies::cursor::Literals;
+use bodies::span;
+use elimination::parts;
+use tables::extent::Extent;
+use tables::kind::Kind;
 use tables::{reading, settings, words};
 
-// How many nodes and words the rule has whose table starts these words: its bodies stand behind word 0 and the entries.
-fn whole(table: &[u8]) -> Extent
-    requires { SomeTable (words_of table.now) }
-    ensures { (r : Rule) → HasTable (words_of table.now) r
-        → (result.nodes ≡ count r) × (result.words ≡ weight r) }
+// "Open means only that the folded result is not a bare true or false", whose root has this kind.
+fn verdict(kind: Kind) -> Verdict
+    ensures { (a : Rule) → kind ≡ kind_of a → verdict_number result ≡ verdict_of a }
 {
-    let n = words::natural(table, 0);
-    let from = (n + 1) * 4;
-    span::span(&table[4..], &table[from..], 0, n + 1)
-}
-
-// "Open means only that the folded result is not a bare true or false", whose kinds are 1 and 0.
-fn verdict(bodies: &[u8]) -> u32
-    requires { (end : ℕ) × SomeBody (words_of bodies.now) end }
-    ensures { (end n : ℕ) (a : Rule) → BodyOf (words_of bodies.now) end n a → result ≡ verdict_of a }
-{
-    let kind = words::natural(bodies, 0);
-    if kind == 0 {
-        return 2;
+    match kind {
+        Kind::True => Verdict::True,
+        Kind::False => Verdict::False,
+        _ => Verdict::Open,
     }
-    if kind == 1 {
-        return 1;
-    }
-    3
 }
 
 // A set of settings, and setting v with it where the factor with these bits is not zero.
@@ -64,11 +53,9 @@ fn factors(bodies: &[u8], place: usize) -> u32
         → LiteralAt (words_of bodies.now) place end t s ls → IsSet result (λ v. has v s) }
 {
     let sum = place + (reading::width(words::natural(bodies, place)) - 7);
-    let mut set: u32 = 0;
-    let mut v: usize = 1;
-    while v < 7 {
-        set = with_factor(set, v as u32, words::natural(bodies, sum + v));
-        v += 1;
+    let mut set = 0;
+    for v in 1..7 {
+        set = with_factor(set, v, words::natural(bodies, sum + v as usize));
     }
     set
 }
@@ -78,11 +65,9 @@ fn occurring(bodies: &[u8], end: usize) -> u32
     requires { SomeBody (words_of bodies.now) end }
     ensures { (n : ℕ) (a : Rule) → BodyOf (words_of bodies.now) end n a → result ≡ settings_of a }
 {
-    let mut set: u32 = 0;
-    let mut place = cursor::first(bodies, end);
-    while place < end {
+    let mut set = 0;
+    for place in Literals::of(bodies, end) {
         set = settings::join(set, factors(bodies, place));
-        place = cursor::following(bodies, place, end);
     }
     set
 }
@@ -93,15 +78,13 @@ fn answered(table: &[u8]) -> Answer
     ensures { (r : Rule) → HasTable (words_of table.now) r
         → answer_of result ≡ table_answer (given r) }
 {
-    let rule = whole(table);
-    let from = (rule.nodes + 1) * 4;
-    let verdict = verdict(&table[from..]);
-    let settings = occurring(&table[from..], rule.words);
+    let rule = parts::rule(table);
+    let Extent { nodes, words } = span::extent(rule);
     Answer {
         number: 0,
-        verdict,
-        words: (rule.nodes + 1 + rule.words) as u32,
-        settings,
+        verdict: verdict(rule.kind()).number(),
+        words: (nodes + 1 + words) as u32,
+        settings: occurring(rule.bodies, words),
     }
 }
 
