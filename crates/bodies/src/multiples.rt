@@ -66,7 +66,8 @@ fn multiple(bodies: &[u8], end: usize, setting: Option<usize>) -> Option<u32>
     Some(m)
 }
 
-// "D is the least common multiple of the sizes of all nonzero x factors, 1 if none."
+// "D is the least common multiple of the sizes of all nonzero x factors, 1 if none." The setting x is a number, here as
+// in the steps, and its range a clause: a narrower type would ask more of a caller.
 pub fn common_factor(bodies: &[u8], end: usize, x: usize) -> Option<u32>
     requires { SomeBody (words_of bodies.now) end × (1 ≤ x) × (x ≤ 6) }
     ensures { WhicheverRule (words_of bodies.now) end (λ a. Bounded (common_factor_of x a) result) }

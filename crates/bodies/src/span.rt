@@ -27,7 +27,7 @@ fn last_child(part: Part<'_>) -> Option<Part<'_>>
     }
 }
 
-// A rule ends where its last child does.
+// A rule ends where its last child does. The loop counts no index.
 pub fn extent(part: Part<'_>) -> Extent
     requires { SomeRuleIn part }
     ensures { (a : Rule) → RuleIn part.entry a → (result.nodes ≡ count a) × (result.words ≡ weight a) }
@@ -43,7 +43,7 @@ pub fn extent(part: Part<'_>) -> Extent
 }
 
 // That of the rule whose entries and bodies these are, from its root on, with the root's number and place: for a caller
-// that has no part of a table.
+// that has no part of a table. The steps have one, and take `extent`.
 pub fn span(entries: &[u8], bodies: &[u8], node: usize, place: usize) -> Extent
     requires { Standing (words_of entries.now) (words_of bodies.now) node place
         × Few (words_of entries.now) (words_of bodies.now) node place }

@@ -11,8 +11,8 @@ ghost use Rattle.folding.specs.Answers.{Gives, Answered, Sides, SomeSides, after
 use builder::push;
 use builder::push::State;
 
-// A truth value, of which nothing is put; or the state with the rule's nodes in front. An enum of its own: neither is an
-// error and neither is nothing, so that Result and Option would say less.
+// A truth value, of which nothing is put; or the state with the rule's nodes in front. An enum of its own: neither is
+// an error and neither is nothing, so that Result and Option would say less.
 #[derive(Clone, Copy)]
 pub enum Folded {
     Known(bool),

@@ -70,7 +70,7 @@ fn walk(part: Part, put: Put) -> Judged
 }
 
 // An and or an or. Joins of one kind "nested to the right" are gone through by a loop: each adds its left side to what
-// is judged before it, until that settles them all or another kind stands there.
+// is judged before it, until that settles them all or another kind stands there. The loop counts no index.
 #[cycle(side_spine_walk)]
 fn spine(and: bool, part: Part, put: Put) -> Judged
     requires { SomeSpine and part put.x put.v.now }

@@ -79,6 +79,7 @@ fn distance(d: u64, c: i64) -> u64
 }
 
 // The bits k at which d divides c + k.
+#[inline(always)]
 pub fn multiples(d: u64, c: i64) -> u64
     requires { (1 ≤ d) × (d ≤ limit) × (nat_abs c < 2 ^ 63) }
     ensures { Mask result (λ k. divides d (c +ℤ pos k)) }

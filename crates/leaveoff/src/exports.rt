@@ -25,7 +25,7 @@ pub fn leaveoff_test(table: &[u8], setting: i32, out: &mut [u8], work: &mut [u8]
     answer::pack(leave_off::leave_off(table, setting, out, work))
 }
 
-// Matching, on any bytes and any six values.
+// Matching, on any bytes and any six values: six numbers, as the C interface has them.
 pub fn leaveoff_match(table: &[u8], s1: i32, s2: i32, s3: i32, s4: i32, s5: i32, s6: i32) -> u64
     ensures value { result ≡ packed (matched table.now s1 s2 s3 s4 s5 s6) }
     ensures says_whether { SaysWhether table.now (s1 ∷ s2 ∷ s3 ∷ s4 ∷ s5 ∷ s6 ∷ []) (unpacked result) }

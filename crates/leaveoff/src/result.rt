@@ -21,7 +21,7 @@ use bodies::span;
 use elimination::parts;
 use tables::extent::Extent;
 use tables::kind::Kind;
-use tables::{reading, settings, words};
+use tables::{settings, words};
 
 // "Open means only that the folded result is not a bare true or false", whose root has this kind.
 fn verdict(kind: Kind) -> Verdict
@@ -52,7 +52,7 @@ fn factors(bodies: &[u8], place: usize) -> u32
     ensures { (end : ℕ) (t : Test) (s : Sum) (ls : List (Test × Sum))
         → LiteralAt (words_of bodies.now) place end t s ls → IsSet result (λ v. has v s) }
 {
-    let sum = place + (reading::width(words::natural(bodies, place)) - 7);
+    let sum = place + (Kind::at(bodies, place).width() - 7);
     let mut set = 0;
     for v in 1..7 {
         set = with_factor(set, v, words::natural(bodies, sum + v as usize));

@@ -7,7 +7,8 @@ ghost use Rattle.rules.specs.Eliminate.{over_limit};
 ghost use Rattle.rules.specs.Calls.{words as words_of};
 ghost use Rattle.literals.specs.Literal.{start_of, LiteralAt, SomeLiteral};
 ghost use Rattle.literals.specs.Rows.{most_word, Tame};
-ghost use Rattle.literals.specs.Changes.{Far, change_of, put_of, becomes, InRange, Fair, Usable, changed_sum, changed_test, divisor_or_none};
+ghost use Rattle.literals.specs.Changes.{Far, change_of, put_of, becomes, InRange, Fair, Usable};
+ghost use Rattle.literals.specs.Changes.{changed_sum, changed_test, divisor_or_none};
 ghost use Rattle.literals.specs.Changes.{Settles, row_of as row_for, SomeChanged};
 
 use crate::row::Row;
@@ -15,8 +16,8 @@ use crate::{literal, row};
 use tables::kind::Kind;
 use tables::words;
 
-// What a step does to every literal: nothing; it scales it to the common factor D for the setting x; it puts a sum in
-// for x, in the far-left body or in the full one.
+// What a step does to every literal, and no step to be run: nothing; it scales it to the common factor D for the
+// setting x; it puts a sum in for x, in the far-left body or in the full one.
 #[derive(Clone, Copy)]
 pub enum Change<'a> {
     Same,

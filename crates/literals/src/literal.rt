@@ -1,5 +1,6 @@
 // Whether a literal of a table holds at six values.
-ghost use Rattle.std.specs.Prelude.{◌≡◌, ℕ, ◌+◌, ◌-◌, ◌*◌, ◌^◌, ◌<◌, ◌≤◌, T, pos, nat_abs, ◌+ℤ◌, ◌*ℤ◌, length, get_or, take, drop};
+ghost use Rattle.std.specs.Prelude.{◌≡◌, ℕ, ◌+◌, ◌-◌, ◌*◌, ◌^◌, ◌<◌, ◌≤◌, T, length, get_or, take, drop};
+ghost use Rattle.std.specs.Prelude.{pos, nat_abs, ◌+ℤ◌, ◌*ℤ◌};
 ghost use Rattle.whole.specs.Divides.{divides as divides_test};
 ghost use Rattle.rules.specs.Sum.{Sum, limit, all_within, value as value_of};
 ghost use Rattle.rules.specs.Rule.{Test, passes as passes_test};
@@ -47,8 +48,8 @@ pub fn divides(k: usize, z: i64) -> bool
     z % k as i64 == 0
 }
 
-// Whether the test of this kind passes at z. A test with no divisor does not look at k. Two kinds are told apart before
-// the division and two behind it: one jump by four kinds was tried, and takes twice as long.
+// Whether the test of this kind, with this divisor, passes at z. A test with no divisor does not look at k. Two kinds
+// are told apart before the division and two behind it: one jump by four kinds was tried, and takes twice as long.
 pub fn passes(kind: Kind, k: usize, z: i64) -> bool
     requires { SomeTest (number_of kind) k × (nat_abs z < 2 ^ 63) }
     ensures { (t : Test) → Marked (number_of kind) k t → result ≡ passes_test t z }

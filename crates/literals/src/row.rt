@@ -1,5 +1,6 @@
 // The words of a sum as a step changes them, in 64 bits.
-ghost use Rattle.std.specs.Prelude.{◌≡◌, not, cond, ◌+◌, ◌/◌, ◌^◌, ◌<◌, ◌≤◌, eqb, pos, nat_abs, ◌+ℤ◌, ◌*ℤ◌, length, get_or};
+ghost use Rattle.std.specs.Prelude.{◌≡◌, not, cond, ◌+◌, ◌/◌, ◌^◌, ◌<◌, ◌≤◌, eqb, length, get_or};
+ghost use Rattle.std.specs.Prelude.{pos, nat_abs, ◌+ℤ◌, ◌*ℤ◌};
 ghost use Rattle.std.specs.Int.Signed.{mag};
 ghost use Rattle.whole.specs.Integers.{eq_ℤ, within as within_of};
 ghost use Rattle.rules.specs.Sum.{Sum, limit, all_within};
@@ -13,8 +14,8 @@ use tables::words;
 // "c and the a's lie within ±2,147,483,647", and a divisor too.
 pub const LIMIT: usize = 2147483647;
 
-// What becomes of every word, and no step to be run. Times(x, sign, m): that of x is the sign, any other is taken m times. Plus(x, f, u): that
-// of x is 0, any other stays, and then f times the word of u is added.
+// What becomes of every word, and no step to be run. Times(x, sign, m): that of x is the sign, any other is taken m
+// times. Plus(x, f, u): that of x is 0, any other stays, and then f times the word of u is added.
 #[derive(Clone, Copy)]
 pub enum Row<'a> {
     Times(usize, i64, usize),

@@ -36,6 +36,12 @@ other_verdict false false e = sym e
 other_verdict true false e = refl
 other_verdict false true e = refl
 
+pub opposite : (x y : Bool) → not (beq x y) ≡ beq x (not y)
+opposite true true = refl
+opposite true false = refl
+opposite false true = refl
+opposite false false = refl
+
 -- ---- the rule in a part of the table
 
 -- the rule a stands in the part, and has no quantifier

@@ -1,23 +1,14 @@
 // The walk over a quantifier-free rule: whether it holds at six values.
-ghost use Rattle.std.specs.Prelude.{true, false, ◌≡◌, T};
+ghost use Rattle.std.specs.Prelude.{◌≡◌, T};
 ghost use Rattle.rules.specs.Sum.{all_within};
 ghost use Rattle.rules.specs.Rule.{Rule};
 ghost use Rattle.rules.specs.Match.{most_value, choice, holds as holds_at};
 ghost use Rattle.rules.specs.Calls.{words as words_of};
-ghost use Rattle.tables.specs.declared.kind.Kind.TheVariants.{False, True, And, Or};
 ghost use Rattle.matcher.specs.Matching.{Matchable, SomeMatchable};
 
 use literals::literal;
 use tables::kind::Kind;
 use tables::part::Part;
-
-// Which truth value of its left side settles a join of this kind: a true one an or, a false one an and.
-fn settling(kind: Kind) -> bool
-    ensures or { kind ≡ Or → result ≡ true }
-    ensures and { kind ≡ And → result ≡ false }
-{
-    matches!(kind, Kind::Or)
-}
 
 // Whether the rule that stands in the table t, as this node at this place, holds at the values. A false left side
 // settles an and, a true one an or; else the right side decides. So only a left side is walked by a call, and is handed
@@ -44,7 +35,7 @@ pub fn verdict(t: &[u8], node: usize, place: usize, values: &[i32; 6]) -> bool
         }
         let side = rule.left();
         let left = verdict(t, side.node, side.place, values);
-        if left == settling(kind) {
+        if left != kind.is_and() {
             return left != odd;
         }
         rule = rule.right();

@@ -1,7 +1,7 @@
 -- The walk around the chosen quantifier at a join: where its sides stand, which one has the quantifier, and what the
 -- walk over the right one asks.
 -- Assumes nothing.
-use mathlib.Core.Path.{◌≡◌, refl, ◌∙◌, ap, subst}
+use mathlib.Core.Path.{◌≡◌, refl, ◌∙◌, ap, subst, sym}
 use mathlib.Core.Bool.{Bool, true, false, not}
 use mathlib.Core.Logic.{inl, inr}
 use mathlib.Core.List.{List}
@@ -35,15 +35,11 @@ use Rattle.steps.proofs.AroundLaws.{some_around, call_on, PartFor, part_ready, a
 abbrev pub Tells : Call → Bool → Type 0
 Tells c both = (j : Junction) (y z : Rule) → RuleIn c.part (Join j y z) → j ≡ junction both
 
-pub tells_and : (c : Call) → ((a : Rule) → RuleIn c.part a → kind.And ≡ kind_of a) → Tells c true
+pub tells_by : (c : Call) {k : Kind} {both : Bool} → ((a : Rule) → RuleIn c.part a → k ≡ kind_of a)
+    → (k ≡ kind.And → both ≡ true) → (k ≡ kind.Or → both ≡ false) → Tells c both
 unfolding kind_of junction
-tells_and c is and y z at = refl
-tells_and c is or y z at = let k = is (Join or y z) at in cc
-
-pub tells_or : (c : Call) {k : Kind} → ((a : Rule) → RuleIn c.part a → k ≡ kind_of a) → ¬ (k ≡ kind.And) → Tells c false
-unfolding kind_of junction
-tells_or c is other and y z at = absurd (other (is (Join and y z) at))
-tells_or c is other or y z at = refl
+tells_by c is when when_not and y z at = sym (ap junction (when (is (Join and y z) at)))
+tells_by c is when when_not or y z at = sym (ap junction (when_not (is (Join or y z) at)))
 
 pub record Joined (c : Call) (both : Bool) : Type 0 where
   pub bare : SomeBareFor c

@@ -15,7 +15,6 @@ use builder::push::State;
 use folding::answers;
 use folding::answers::Folded;
 use literals::change::Change;
-use tables::kind::Kind;
 use tables::part::Part;
 use walks::{chain, fold};
 
@@ -44,10 +43,7 @@ fn within(part: Part, chosen: usize, step: Step, out: &mut [u8], b: State) -> Fo
     if part.node == chosen {
         return made::made(part, step, out, b);
     }
-    let both = match part.kind() {
-        Kind::And => true,
-        _ => false,
-    };
+    let both = part.kind().is_and();
     let side = part.right();
     let right = if chosen < side.node {
         fold::fold(side, Change::Same, out, b)

@@ -22,7 +22,7 @@ pub fn has(mask: u64, k: usize) -> bool
     mask >> k & 1 == 1
 }
 
-// For each bound, where the full body folds to false.
+// For each bound, where the full body folds to false. There may be more masks than bounds.
 pub fn false_at_bounds(part: Part, x: usize, j: usize, places: &[u32], masks: &mut [u64])
     requires { In SomeBodyBounds part x places.now
         × (j ≤ most_period) × (length places.now ≤ length masks.old) }

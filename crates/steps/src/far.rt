@@ -63,7 +63,7 @@ pub fn far_bodies(
     let zero = sums::numeral(0);
     let mut j = period;
     let mut f = others;
-    // a block at a time: no count of an index
+    // a block at a time, and no count of an index; so in `full` and `survey`, around another turn
     while 0 < j {
         let low = j.saturating_sub(blocks::WIDTH);
         let judged = judge::judge(part, true, x, &zero, low + 1);

@@ -18,7 +18,7 @@ use literals::change::Change;
 use tables::part::Part;
 
 // The full bodies of one j, from that at the last bound to that at the first. Bit m of a bound's mask tells where its
-// body is false.
+// body is false. By index, as the masks are made anew for each block, of bounds that stay.
 fn at_bounds(
     part: Part,
     x: usize,
@@ -89,7 +89,7 @@ fn full_blocks(
 {
     let mut j = period;
     let mut f = Folded::Known(false);
-    // a block at a time: no count of an index
+    // a block at a time, and no count of an index; so in `far` and `survey`, around another turn
     while 0 < j {
         if answers::settles(false, f) {
             return f;

@@ -30,8 +30,8 @@ fn word(bodies: &[u8], p: usize, x: usize, i: usize) -> i64
     0 - words::get(bodies, p + 1 + i) as i64
 }
 
-// The bound of the literal whose body starts at place p, with j added: T with no x, negated. Written out, since the first
-// word has j besides: a loop over the six others and a first word of its own are no plainer.
+// The bound of the literal whose body starts at place p, with j added: T with no x, negated. Written out, since the
+// first word has j besides: a loop over the six others and a first word of its own are no plainer.
 pub fn above(bodies: &[u8], p: usize, x: usize, j: usize) -> [i64; 7]
     requires { SomeBound (words_of bodies.now) x p × (j ≤ most_period) }
     ensures { (b : Sum) → BoundAt (words_of bodies.now) x p b → result ≡ add b (number (pos j)) }

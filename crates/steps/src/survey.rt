@@ -39,7 +39,7 @@ fn row(part: Part, far: bool, x: usize, u: &[i64; 7], period: usize) -> Option<u
 {
     let mut many = 0;
     let mut left = period;
-    // a block at a time: no count of an index
+    // a block at a time, and no count of an index; so in `far` and `full`, around another turn
     while 0 < left {
         let low = left.saturating_sub(blocks::WIDTH);
         let judged = judge::judge(part, far, x, u, low + 1);

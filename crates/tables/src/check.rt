@@ -30,7 +30,8 @@ fn nodes(t: &[u8], n: usize) -> Result<usize, Refusal>
     }
 }
 
-// How many children a node of the kind with this number has, by branches, as `reading::width` has it and for its reason.
+// How many children a node of the kind with this number has, by branches, as `reading::width` has it and for its
+// reason.
 pub fn children(kind: usize) -> usize
     ensures { result ≡ get_or arities kind 0 }
 {
@@ -48,8 +49,8 @@ pub fn children(kind: usize) -> usize
 
 // The tree that starts these bodies, which are those of `left` nodes from number `node` on; or there is none. It ends
 // where its last child does: behind m nodes and w words exactly one more tree is due. Only a left child is walked by a
-// call. The loop counts no index: a turn may pass a whole left child. By branches: a match on the number of children makes
-// the next place wait for it, and a chain of nots takes three times as long.
+// call. The loop counts no index: a turn may pass a whole left child. By branches: a match on the number of children
+// makes the next place wait for it, and a chain of nots takes three times as long.
 fn walk(bodies: &[u8], node: usize, left: usize) -> Option<Extent>
     requires { (Listed (words bodies.now) node left) × (node + left ≤ 16384)
         × (length (words bodies.now) ≤ 16384) }

@@ -65,7 +65,7 @@ impl<'a> Part<'a> {
     }
 
     // "the right child is the first node after the left subtree": its number is in the join's body, its place in its
-    // entry.
+    // entry. Of any join that stands there, well formed or not.
     pub fn behind_left(self) -> Part<'a>
         requires { StandingJoinIn self }
         ensures { (j : Junction) (a b : Rule) → StandsIn self.entry (Join j a b)

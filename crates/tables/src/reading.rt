@@ -60,8 +60,8 @@ fn divisor_and_sum(b: &[u8]) -> Option<usize>
 // A match over Kind was tried here: a loop over bodies, each found by the width before, took twice as long.
 const WIDTHS: usize = 0x82299812211;
 
-// How many words a body of the kind with this number has, for such a loop; a number of no kind has none. Half the number
-// tells an and or an or.
+// How many words a body of the kind with this number has, for such a loop; a number of no kind has none. Half the
+// number tells an and or an or.
 pub fn width(kind: usize) -> usize
     ensures { (result ≡ get_or widths kind 0) × (result ≤ 9) }
 {

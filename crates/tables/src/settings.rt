@@ -1,4 +1,5 @@
-// "A set of settings that occur in it, bit v−1 standing for setting v": six bits, by shifts and masks, as the paper says.
+// "A set of settings that occur in it, bit v−1 standing for setting v": six bits, by shifts and masks, as the paper
+// says.
 ghost use Rattle.std.specs.Prelude.{◌≡◌, Bool, ◌||◌, ℕ, ◌≤◌, eqb};
 ghost use Rattle.tables.specs.Settings.{IsSet};
 

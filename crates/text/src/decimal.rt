@@ -1,5 +1,5 @@
-// Whole numbers in decimal, put into lent bytes. The digits are the library's own: std's formatting states its bytes only
-// where it did not fail, and these calls cannot fail.
+// Whole numbers in decimal, put into lent bytes. The digits are the library's own: std's formatting states its bytes
+// only where it did not fail, and these calls cannot fail.
 ghost use Rattle.std.specs.Prelude.{◌+◌, ◌≤◌, length, pos};
 ghost use Rattle.text.specs.Decimal.{decimal, number};
 ghost use Rattle.text.specs.Placed.{Puts};

@@ -20,8 +20,8 @@ impl Text<'_> {
         self.whole(n);
     }
 
-    // A line of four numbers: at most 44 characters. Not one with `line`: over an iterator a clause would have to say what
-    // it yields.
+    // A line of four numbers: at most 44 characters. Not one with `line`: over an iterator a clause would have to say
+    // what it yields.
     pub fn four(&mut self, first: u32, others: [u32; 3])
         requires { self.old.at + 44 ≤ length self.old.bytes.now }
         ensures line { Puts self.old (line_of (pos first) (map pos others)) self.new }

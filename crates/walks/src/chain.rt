@@ -15,10 +15,10 @@ use tables::kind::Kind;
 use tables::part::Part;
 use tables::words;
 
-// As many nodes as a table can have: "over 16,384 words".
+// No table has more nodes: "over 16,384 words".
 pub const MOST_NODES: usize = 16384;
 
-// The words of a not and of a quantifier; 0 for every other kind, which has none of a chain.
+// The words of a not and of a quantifier; 0, and no Option, for every other kind: a kind of no words ends a chain.
 pub fn link(kind: Kind) -> usize
     ensures { result ≡ link_words kind }
 {

@@ -9,7 +9,8 @@ use Rattle.rules.specs.Rule.{Test}
 use Rattle.rules.specs.Calls.{words}
 use Rattle.rules.proofs.Sizes.{before_sum}
 use Rattle.bodies.specs.Cursor.{LiteralAt}
-use Rattle.bodies.proofs.CursorLaws.{literal_inside, literal_wide}
+use Rattle.bodies.proofs.CursorLaws.{literal_inside}
+use Rattle.bodies.proofs.LiteralKinds.{kinded, wide_is}
 use Rattle.bodies.proofs.MultipleLaws.{factor_word}
 use Rattle.leaveoff.proofs.OccurringLaws.{factors_below, none_below, one_more, all_below}
 use Rattle.leaveoff.proofs.result.factors.Goals.{After-width}
@@ -18,10 +19,10 @@ use Rattle.leaveoff.proofs.result.factors.Goals as goal
 -- how many words the body of the literal has
 wide : (c : After-width) {end : ℕ} {t : Test} {s : Sum} {ls : List (Test × Sum)}
     → LiteralAt (words c.args.bodies.now) c.args.place end t s ls → c.width.result ≡ before_sum t + 7
-wide c l = literal_wide l c.natural.result _ c.natural.ensures.1 c.width.ensures.0
+wide c l = wide_is l c.at.result c.at.ensures c.width.result c.width.ensures.0
 
-pub natural-requires : goal.natural-requires
-natural-requires c = omega (arith, literal_inside c.requires.1.at)
+pub at-requires : goal.at-requires
+at-requires c = kinded c.requires.1.at
 
 pub overflow_sub-sum : goal.overflow_sub-sum
 overflow_sub-sum c = omega (arith, wide (goal.at.overflow_sub-sum c).After-width c.requires.1.at)
@@ -40,18 +41,18 @@ overflow_add-sum-in-loop-v c =
     let width = wide (goal.at.overflow_add-sum-in-loop-v c).After-width at in
     omega (arith, width, literal_inside at, c.requires.1.few, c.loop-v-test.true)
 
-pub natural-requires-in-loop-v : goal.natural-requires-in-loop-v
-natural-requires-in-loop-v c =
+pub natural-requires : goal.natural-requires
+natural-requires c =
     let at = c.requires.1.at in
-    let width = wide (goal.at.natural-requires-in-loop-v c).After-width at in
+    let width = wide (goal.at.natural-requires c).After-width at in
     omega (arith, width, literal_inside at, c.loop-v-test.true)
 
 pub loop-v-preserved : goal.loop-v-preserved
 loop-v-preserved c = λ end t s ls l.
     let v = c.loop-v.v in
     let width = wide (goal.at.loop-v-preserved c).After-width l in
-    one_more _ v c.natural-in-loop-v.result s
-    (sym (factor_word l _ width v (omega (arith, c.loop-v-test.true))) ∙ c.natural-in-loop-v.ensures.1)
+    one_more _ v c.natural.result s
+    (sym (factor_word l _ width v (omega (arith, c.loop-v-test.true))) ∙ c.natural.ensures.1)
     (c.with_factor-set.ensures (factors_below v s) (c.loop-v.invariant end t s ls l))
 
 pub returns : goal.returns

@@ -1,16 +1,16 @@
 -- `verdict` meets its contract: the kind tells what the rule is, and what is walked next.
-use Rattle.std.proofs.Common.{◌≡◌, Bool, true, false, ℕ, refl, sym, subst, ◌∙◌, arith}
+use Rattle.std.proofs.Common.{◌≡◌, Bool, true, false, not, ℕ, refl, sym, ap, subst, ◌∙◌, arith}
 use mathlib.Core.Logic.{◌⊎◌, inl, inr}
 use Rattle.rules.specs.Rule.{and, or}
 use Rattle.tables.specs.Kinds.{join_kind}
 use Rattle.tables.specs.declared.kind.Kind.TheVariants.{False, True, And, Or}
-use Rattle.matcher.proofs.WalkLaws.{part_there, whole, in_part, of_part, some_in, some_of, within_behind}
+use Rattle.matcher.proofs.WalkLaws.{opposite, part_there, whole, in_part, of_part, some_in, some_of, within_behind}
 use Rattle.matcher.proofs.WalkLaws.{walk_begins, come_to, walk_ends, falls, Says, false_says, true_says}
 use Rattle.matcher.proofs.WalkLaws.{not_there, shorter, onto_not, LiteralKind, some_literal, literal_says}
 use Rattle.matcher.proofs.WalkLaws.{JoinKind, join_in, some_left, left_within, left_shorter, left_says}
 use Rattle.matcher.proofs.WalkLaws.{right_within, right_shorter, onto_right}
 use Rattle.matcher.proofs.walk.+verdict.Goals as goal
-use Rattle.matcher.proofs.walk.+verdict.Goals.{In-And, After-is_true, After-settling, In_default}
+use Rattle.matcher.proofs.walk.+verdict.Goals.{In-And, After-is_true, After-is_and, In_default}
 
 -- behind the match the kind is that of an and or an or
 joint : (t : ℕ) (c : In-And t) → (s : Bool) × JoinKind c.loop-odd.rule s
@@ -21,16 +21,22 @@ joint t c = by c.in-And.is
     by (inl e) = (false, record { joint = and; kinded = λ a at. sym e ∙ c.kind-kind.ensures a at; settles = refl })
     by (inr e) = (true, record { joint = or; kinded = λ a at. sym e ∙ c.kind-kind.ensures a at; settles = refl })
 
--- and it settles at the value that is told
-settled : (t : ℕ) (c : After-settling t) → JoinKind c.loop-odd.rule c.settling.result
+-- and the value that settles it is the opposite of what is told
+settled : (t : ℕ) (c : After-is_and t) → JoinKind c.loop-odd.rule (not c.is_and.result)
 unfolding join_kind
 settled t c = by c.in-And.is
   where
-    by : c.kind-kind.result ≡ And ⊎ c.kind-kind.result ≡ Or → JoinKind c.loop-odd.rule c.settling.result
-    by (inl e) =
-        record { joint = and; kinded = λ a at. sym e ∙ c.kind-kind.ensures a at; settles = c.settling.ensures.and e }
-    by (inr e) =
-        record { joint = or; kinded = λ a at. sym e ∙ c.kind-kind.ensures a at; settles = c.settling.ensures.or e }
+    by : c.kind-kind.result ≡ And ⊎ c.kind-kind.result ≡ Or → JoinKind c.loop-odd.rule (not c.is_and.result)
+    by (inl e) = record {
+      joint = and;
+      kinded = λ a at. sym e ∙ c.kind-kind.ensures a at;
+      settles = ap not (c.is_and.ensures.yes e);
+    }
+    by (inr e) = record {
+      joint = or;
+      kinded = λ a at. sym e ∙ c.kind-kind.ensures a at;
+      settles = ap not (c.is_and.ensures.no e);
+    }
 
 -- a constant says what its kind does
 constant : (t : ℕ) (c : After-is_true t) → Says c.loop-odd.rule c.args.values.now c.is_true.result
@@ -79,17 +85,18 @@ verdict-left-requires t c =
     (omega (arith, c.decreases, falls), (some_of within (some_left join c.left-side.ensures here), c.requires.in_range))
 
 -- what the left side says
-left_told : (t : ℕ) (c : After-settling t) → Says c.left-side.result c.args.values.now c.verdict-left.result
+left_told : (t : ℕ) (c : After-is_and t) → Says c.left-side.result c.args.values.now c.verdict-left.result
 left_told t c a m =
     let here = come_to c.loop-odd.invariant.0 (some_in c.at-rule.ensures c.requires.some_matchable) in
     let within = left_within (settled t c) c.left-side.ensures c.loop-odd.invariant.1 here in
     c.verdict-left.ensures a (of_part within m)
 
-pub returns-then-left-settling : goal.returns-then-left-settling
-returns-then-left-settling t c a m =
-    let after = (goal.at.returns-then-left-settling t c).After-settling in
+pub returns-then-left-is_and : goal.returns-then-left-is_and
+returns-then-left-is_and t c a m =
+    let after = (goal.at.returns-then-left-is_and t c).After-is_and in
     walk_ends c.loop-odd.invariant.0
-    (left_says (settled t after) c.left-side.ensures _ (left_told t after) c.if-left-settling.true) a
+    (left_says (settled t after) c.left-side.ensures _ (left_told t after)
+    (sym (opposite _ _) ∙ c.if-left-is_and.true)) a
     (in_part c.at-rule.ensures m)
 
 pub right-rule-requires : goal.right-rule-requires
@@ -105,10 +112,10 @@ loop-odd-smaller t c =
 pub loop-odd-preserved : goal.loop-odd-preserved
 loop-odd-preserved t c =
     let here = come_to c.loop-odd.invariant.0 (some_in c.at-rule.ensures c.requires.some_matchable) in
-    let after = (goal.at.loop-odd-preserved t c).After-settling in
+    let after = (goal.at.loop-odd-preserved t c).After-is_and in
     let join = settled t after in (
       onto_right c.loop-odd.invariant.0 join c.left-side.ensures c.right-rule.ensures (left_told t after)
-          c.if-left-settling.false here,
+          (sym (opposite _ _) ∙ c.if-left-is_and.false) here,
       right_within join c.right-rule.ensures c.loop-odd.invariant.1 here,
     )
 

@@ -1,11 +1,11 @@
 -- `around::around` and `around::within`, which call each other, meet their contracts.
 -- Assumes nothing.
-use mathlib.Core.Path.{sym, ◌∙◌, subst}
+use mathlib.Core.Path.{sym, ◌∙◌}
 use mathlib.Core.Bool.{Bool, true, false}
 use Prim.Native.Nat.{ℕ}
 use native.Mathlib.Omega.{arith}
 use Rattle.steps.proofs.AroundLaws.{call, made_asks, made_gives}
-use Rattle.steps.proofs.AroundJoin.{Joined, RightFound, Beside, Tells, tells_and, tells_or, some_rule, join_there}
+use Rattle.steps.proofs.AroundJoin.{Joined, RightFound, Beside, tells_by, some_rule, join_there}
 use Rattle.steps.proofs.AroundJoin.{left_shorter, right_shorter, right_around_asks, right_fold_asks}
 use Rattle.steps.proofs.AroundSides.{RightAnswered, right_rebuilt, right_folded, settled_gives, only}
 use Rattle.steps.proofs.AroundSides.{left_fold_asks, left_around_asks, left_rebuilt, left_folded, right_as, both_as}
@@ -13,7 +13,7 @@ use Rattle.steps.proofs.AroundSides.{joined_asks, joined_gives}
 use Rattle.steps.proofs.AroundChain.{Linked, chain_asks, behind_asks, inner_short}
 use Rattle.steps.proofs.AroundChain.{within_asks, wrapped_asks, wrapped_gives}
 use Rattle.steps.proofs.around.+around_within.Goals as goal
-use Rattle.steps.proofs.around.+around_within.Goals.{within-Joined-kind, within-in-And, within-in_default}
+use Rattle.steps.proofs.around.+around_within.Goals.{within-After-is_and-both}
 use Rattle.steps.proofs.around.+around_within.Goals.{within-After-settles}
 use Rattle.steps.proofs.around.+around_within.Goals.{within-then-chosen-side, within-else-chosen-side}
 use Rattle.steps.proofs.around.+around_within.Goals.{within-then-chosen-side-2, within-else-chosen-side-2}
@@ -68,19 +68,13 @@ pub within-kind-requires : goal.within-kind-requires
 within-kind-requires t c =
     some_rule (call c.args.part c.args.chosen c.args.step c.args.out.now c.args.b) c.requires
 
-joined : (t : ℕ) (c : within-Joined-kind t)
-    → Joined (call c.args.part c.args.chosen c.args.step c.args.out.now c.args.b) c.match-kind.both
+joined : (t : ℕ) (c : within-After-is_and-both t)
+    → Joined (call c.args.part c.args.chosen c.args.step c.args.out.now c.args.b) c.is_and-both.result
 joined t c = record {
   bare = c.requires;
   apart = c.if-part-chosen.false;
-  tells = elim c.match-kind.branch [
-    | within-in-And w ↦ subst (Tells (call c.args.part c.args.chosen c.args.step c.args.out.now c.args.b))
-        (sym w.both-is)
-        (tells_and (call c.args.part c.args.chosen c.args.step c.args.out.now c.args.b) w.in-And.ensures)
-    | within-in_default w ↦ subst (Tells (call c.args.part c.args.chosen c.args.step c.args.out.now c.args.b))
-        (sym w.both-is)
-        (tells_or (call c.args.part c.args.chosen c.args.step c.args.out.now c.args.b) c.kind.ensures w.in_default.not-And)
-  ];
+  tells = tells_by (call c.args.part c.args.chosen c.args.step c.args.out.now c.args.b) c.kind.ensures
+      c.is_and-both.ensures.yes c.is_and-both.ensures.no;
 }
 
 pub within-right-side-requires : goal.within-right-side-requires
@@ -89,29 +83,29 @@ within-right-side-requires t c = join_there (joined t c)
 pub within-fold-right-requires : goal.within-fold-right-requires
 within-fold-right-requires t c =
     right_fold_asks (record {
-      join = joined t (goal.at.within-fold-right-requires t c).Joined-kind;
+      join = joined t (goal.at.within-fold-right-requires t c).After-is_and-both;
       found = c.right-side.ensures;
     })
 
 pub within-around-right-requires : goal.within-around-right-requires
 within-around-right-requires t c =
     let found : RightFound
-    (call c.args.part c.args.chosen c.args.step c.args.out.now c.args.b) c.match-kind.both c.right-side.result
+    (call c.args.part c.args.chosen c.args.step c.args.out.now c.args.b) c.is_and-both.result c.right-side.result
     = record {
-      join = joined t (goal.at.within-around-right-requires t c).Joined-kind;
+      join = joined t (goal.at.within-around-right-requires t c).After-is_and-both;
       found = c.right-side.ensures;
     } in
     (omega (arith, c.decreases, right_shorter found), right_around_asks found c.if-chosen-side.false)
 
 -- the right side is answered, which has the quantifier (e) or has it not
 right : (t : ℕ) (c : within-After-settles t)
-    → Joined (call c.args.part c.args.chosen c.args.step c.args.out.now c.args.b) c.match-kind.both → (e : Bool)
+    → Joined (call c.args.part c.args.chosen c.args.step c.args.out.now c.args.b) c.is_and-both.result → (e : Bool)
     → Beside e (call c.args.part c.args.chosen c.args.step c.args.out.now c.args.b) c.right-side.result
-    → RightAnswered e (call c.args.part c.args.chosen c.args.step c.args.out.now c.args.b) c.match-kind.both
+    → RightAnswered e (call c.args.part c.args.chosen c.args.step c.args.out.now c.args.b) c.is_and-both.result
     c.right-side.result c.if-chosen-side.out c.if-chosen-side.right
 right t c j e beside =
     let found : RightFound
-    (call c.args.part c.args.chosen c.args.step c.args.out.now c.args.b) c.match-kind.both c.right-side.result
+    (call c.args.part c.args.chosen c.args.step c.args.out.now c.args.b) c.is_and-both.result c.right-side.result
     = record { join = j; found = c.right-side.ensures } in
     elim c.if-chosen-side.branch [
       | within-then-chosen-side w ↦ right_as w.out-is w.right-is
@@ -124,7 +118,7 @@ right t c j e beside =
 
 pub within-returns-then-settles : goal.within-returns-then-settles
 within-returns-then-settles t c =
-    let j = joined t (goal.at.within-returns-then-settles t c).Joined-kind in
+    let j = joined t (goal.at.within-returns-then-settles t c).After-is_and-both in
     let at = (goal.at.within-returns-then-settles t c).After-settles in
     let settled = sym c.settles.ensures ∙ c.if-settles.true in
     elim c.if-chosen-side.branch [
@@ -133,15 +127,15 @@ within-returns-then-settles t c =
     ]
 
 pub within-left-requires : goal.within-left-requires
-within-left-requires t c = join_there (joined t (goal.at.within-left-requires t c).Joined-kind)
+within-left-requires t c = join_there (joined t (goal.at.within-left-requires t c).After-is_and-both)
 
 pub within-left-requires-else-chosen-side-2 : goal.within-left-requires-else-chosen-side-2
 within-left-requires-else-chosen-side-2 t c =
-    join_there (joined t (goal.at.within-left-requires-else-chosen-side-2 t c).Joined-kind)
+    join_there (joined t (goal.at.within-left-requires-else-chosen-side-2 t c).After-is_and-both)
 
 pub within-around-left-requires : goal.within-around-left-requires
 within-around-left-requires t c =
-    let j = joined t (goal.at.within-around-left-requires t c).Joined-kind in
+    let j = joined t (goal.at.within-around-left-requires t c).After-is_and-both in
     let at = (goal.at.within-around-left-requires t c).After-settles in (
       omega (arith, c.decreases, left_shorter j c.left.ensures),
       left_around_asks (right t at j false c.if-chosen-side-2.true) c.after-c.ensures c.left.ensures,
@@ -149,14 +143,14 @@ within-around-left-requires t c =
 
 pub within-fold-left-requires : goal.within-fold-left-requires
 within-fold-left-requires t c =
-    let j = joined t (goal.at.within-fold-left-requires t c).Joined-kind in
+    let j = joined t (goal.at.within-fold-left-requires t c).After-is_and-both in
     let at = (goal.at.within-fold-left-requires t c).After-settles in
     left_fold_asks (right t at j true c.if-chosen-side-2.false) c.after-c.ensures
     c.left-else-chosen-side-2.ensures
 
 pub within-joined-requires : goal.within-joined-requires
 within-joined-requires t c =
-    let j = joined t (goal.at.within-joined-requires t c).Joined-kind in
+    let j = joined t (goal.at.within-joined-requires t c).After-is_and-both in
     let at = (goal.at.within-joined-requires t c).After-settles in
     let unsettled = sym c.settles.ensures ∙ c.if-settles.false in
     elim c.if-chosen-side-2.branch [
@@ -170,7 +164,7 @@ within-joined-requires t c =
 
 pub within-returns : goal.within-returns
 within-returns t c =
-    let j = joined t (goal.at.within-returns t c).Joined-kind in
+    let j = joined t (goal.at.within-returns t c).After-is_and-both in
     let at = (goal.at.within-returns t c).After-settles in
     let unsettled = sym c.settles.ensures ∙ c.if-settles.false in
     elim c.if-chosen-side-2.branch [
