@@ -3,10 +3,10 @@
 use mathlib.Core.Path.{sym, ◌∙◌}
 use native.Mathlib.Omega.{arith}
 use Rattle.judging.proofs.KindRules.{constant_rule, joined_kind, one_of_literals}
-use Rattle.judging.proofs.WalkLaws.{some_rule_in, constant_says, literal_asks, literal_says}
-use Rattle.judging.proofs.NotLaws.{nots_asks, nots_run, behind_asks, under_asks, under_shorter, run_says}
+use Rattle.judging.proofs.WalkLaws.{constant_says, literal_asks, literal_says}
+use Rattle.judging.proofs.NotLaws.{nots_run, behind_asks, under_asks, under_shorter, run_says}
 use Rattle.judging.proofs.SpineLaws.{begun, join_in, left_asks, left_shorter, settled_says, right_shorter, onward}
-use Rattle.judging.proofs.SpineLaws.{last_shorter, last_says}
+use Rattle.judging.proofs.SpineLaws.{last_says}
 use Rattle.judging.proofs.judge.+side_spine_walk.Goals as goal
 
 -- ---- a side
@@ -20,17 +20,11 @@ side-returns-in-Positive t c =
     literal_says c.args.put.far (λ a at. one_of_literals c.kind.result a (c.kind.ensures a at) c.in-Positive.is)
     c.judge.ensures
 
-pub side-walk-requires : goal.side-walk-requires
-side-walk-requires t c = (omega (arith, c.decreases), c.requires)
-
 -- ---- the joins of one kind
 
 pub spine-loop-rest-init : goal.spine-loop-rest-init
 spine-loop-rest-init t c =
     begun c.args.part c.args.put.far c.args.and c.known-before.result c.requires c.known-before.ensures
-
-pub spine-kind-requires : goal.spine-kind-requires
-spine-kind-requires t c = some_rule_in c.loop-rest.invariant.some
 
 pub spine-left-requires : goal.spine-left-requires
 spine-left-requires t c = join_in c.loop-rest.invariant c.kind.ensures c.is_join.ensures c.loop-rest-test.true
@@ -61,13 +55,6 @@ spine-loop-rest-preserved t c =
     onward c.loop-rest.invariant c.kind.ensures c.is_join.ensures c.loop-rest-test.true c.left.ensures
     c.side.ensures c.joined-before.ensures c.right-rest.ensures
 
-pub spine-side-requires-2 : goal.spine-side-requires-2
-spine-side-requires-2 t c =
-    let along = c.loop-rest.invariant in (
-      omega (arith, c.decreases, last_shorter along c.kind.ensures c.is_join.ensures c.loop-rest-test.false),
-      along.some,
-    )
-
 pub spine-returns : goal.spine-returns
 spine-returns t c = last_says c.loop-rest.invariant c.side-2.ensures c.joined.ensures
 
@@ -90,9 +77,6 @@ walk-spine-requires t c = (
   },
 )
 
-pub walk-nots-n-requires : goal.walk-nots-n-requires
-walk-nots-n-requires t c = nots_asks c.requires
-
 pub walk-behind-requires : goal.walk-behind-requires
 walk-behind-requires t c =
     behind_asks (nots_run c.kind-kind.result c.requires c.kind-kind.ensures c.in-Not.is c.nots-n.ensures)
@@ -106,15 +90,3 @@ pub walk-returns-in-Not : goal.walk-returns-in-Not
 walk-returns-in-Not t c =
     let run = nots_run c.kind-kind.result c.requires c.kind-kind.ensures c.in-Not.is c.nots-n.ensures in
     run_says run c.behind.ensures c.args.put.far c.walk.result c.turned.result c.walk.ensures c.turned.ensures
-
-pub walk-leaf-requires : goal.walk-leaf-requires
-walk-leaf-requires t c =
-    let d = c.in_default in
-    record {
-      some = c.requires;
-      no_false = λ a at e. d.not-False (c.kind-kind.ensures a at ∙ e);
-      no_true = λ a at e. d.not-True (c.kind-kind.ensures a at ∙ e);
-      no_and = λ a at e. d.not-And (c.kind-kind.ensures a at ∙ e);
-      no_or = λ a at e. d.not-Or (c.kind-kind.ensures a at ∙ e);
-      no_not = λ a at e. d.not-Not (c.kind-kind.ensures a at ∙ e);
-    }

@@ -4,12 +4,9 @@ use mathlib.Core.Path.{sym, ◌∙◌}
 use Rattle.rules.specs.Rule.{Rule}
 use Rattle.tables.specs.Parts.{RuleIn}
 use Rattle.judging.proofs.KindRules.{IsLiteral, one_of_binds, literal_rule}
-use Rattle.judging.proofs.WalkLaws.{some_rule_in, bind_says, literal_asks, literal_says}
+use Rattle.judging.proofs.WalkLaws.{bind_says, literal_asks, literal_says}
 use Rattle.judging.proofs.judge.leaf.Goals as goal
 use Rattle.judging.proofs.judge.leaf.Goals.{In_default}
-
-pub kind-requires : goal.kind-requires
-kind-requires c = some_rule_in c.requires.some
 
 pub returns-in-ForSome : goal.returns-in-ForSome
 returns-in-ForSome c =

@@ -9,9 +9,6 @@ use Rattle.literals.proofs.KindNumbers.{number_signed, other_number}
 use Rattle.judging.proofs.NotLaws.{nots_kinded, more_nots, no_more_nots, nots_inside}
 use Rattle.judging.proofs.judge.nots.Goals as goal
 
-pub loop-n-init : goal.loop-n-init
-loop-n-init c = λ es m p a s. omega arith
-
 pub at-requires : goal.at-requires
 at-requires c =
     let some = c.requires in

@@ -5,11 +5,8 @@ use mathlib.Core.Bool.{true, false}
 use Rattle.tables.specs.Kinds.{number_of}
 use Rattle.tables.specs.declared.kind.Kind.TheVariants.{Divisible, Indivisible}
 use Rattle.literals.proofs.KindNumbers.{other_number}
-use Rattle.judging.proofs.LiteralLaws.{one_folds, divisible_test, other_divisor, no_divisor}
+use Rattle.judging.proofs.LiteralLaws.{one_folds, divisible_test, no_divisor}
 use Rattle.judging.proofs.literal.divisor_one.Goals as goal
-
-pub returns-then-k-ne1 : goal.returns-then-k-ne1
-returns-then-k-ne1 c = λ t m. other_divisor t m c.if-k-ne1.true
 
 pub returns-in-Divisible : goal.returns-in-Divisible
 unfolding number_of

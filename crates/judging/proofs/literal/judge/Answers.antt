@@ -8,9 +8,6 @@ pub returns-then-not-put : goal.returns-then-not-put
 returns-then-not-put c = λ n t s w k l shifted h.
     full_kept c.args.put.far c.args.put.x t s _ c.if-not-put.true (c.kept.ensures n t s w k l shifted h)
 
-pub far_left-requires : goal.far_left-requires
-far_left-requires c = (c.requires.literal, c.requires.setting)
-
 pub returns-in-Some : goal.returns-in-Some
 returns-in-Some c = λ n t s w k l shifted h.
     says_throughout

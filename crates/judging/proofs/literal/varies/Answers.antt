@@ -2,25 +2,12 @@
 -- Assumes nothing.
 use native.Mathlib.Omega.{arith}
 use borrow.Author.Rules.{sfits_of}
-use mir.Syntax.{w64}
 use mir.Facts.{to_z-of_z}
-use Rattle.literals.proofs.Sizes.{again}
 use Rattle.judging.proofs.FactorLaws.{none_seen, one_seen, none_more, none_left}
 use Rattle.judging.proofs.literal.varies.Goals as goal
 
 pub loop-i-init : goal.loop-i-init
 loop-i-init c = none_seen _ _ _ _
-
-pub moved-requires : goal.moved-requires
-moved-requires c =
-    let reach = c.requires in (
-      record {
-        long = reach.long;
-        small = again w64 c.ranges.f reach.small;
-        shift = reach.shift;
-      },
-      c.loop-i-test.true,
-    )
 
 pub returns-then-moved-ne0 : goal.returns-then-moved-ne0
 returns-then-moved-ne0 c = λ z m.

@@ -4,19 +4,13 @@ use mathlib.Core.Path.{sym, ap, ◌∙◌}
 use lib.Signed.{lt_z}
 use lib.IntN.{pos}
 use mir.Facts.{to_z-of_z}
-use Rattle.judging.proofs.MaskLaws.{rising_all, rising_some, whole_fits, less_asks, less_casts}
+use Rattle.judging.proofs.MaskLaws.{rising_all, rising_some, whole_fits}
 use Rattle.judging.proofs.masks.rising.Goals as goal
 
 pub returns-then-c-gt0 : goal.returns-then-c-gt0
 returns-then-c-gt0 c =
     rising_all c.args.c
     (ap (lt_z (pos 0)) (sym (to_z-of_z (whole_fits c.args.c c.requires))) ∙ c.if-c-gt0.true)
-
-pub overflow_sub-c : goal.overflow_sub-c
-overflow_sub-c c = less_asks c.args.c c.requires
-
-pub overflow_cast-c : goal.overflow_cast-c
-overflow_cast-c c = less_casts c.args.c c.requires c.if-c-gt0.false
 
 pub returns : goal.returns
 returns c =

@@ -6,7 +6,7 @@ use mir.Syntax.{w64}
 use Rattle.literals.specs.Literal.{start_of}
 use Rattle.literals.specs.Changes.{divisor_or_none}
 use Rattle.literals.proofs.Sizes.{again}
-use Rattle.literals.proofs.ChangeLaws.{scaled_fair, product_fits}
+use Rattle.literals.proofs.ChangeLaws.{scaled_fair}
 use Rattle.literals.proofs.ChangeLaws.{divisor_none, divisor_read, divisor_kept, divisor_scaled}
 use Rattle.literals.proofs.change.divisor.Goals as goal
 
@@ -29,9 +29,6 @@ multiplier-requires c = (
   again w64 (sfits_of {z = c.factor.result} c.factor.type_inv) c.factor.ensures.1,
   (scaled_fair c.in-Scaled.is c.requires.1).1,
 )
-
-pub overflow_mul-result : goal.overflow_mul-result
-overflow_mul-result c = product_fits c.multiplier.ensures.1 c.natural-k.ensures.0
 
 pub returns-in-Scaled : goal.returns-in-Scaled
 returns-in-Scaled c = λ n t s l.

@@ -18,9 +18,6 @@ returns-in_default c = λ n t s l.
     far_other s c.args.x t
     (λ e. other_number c.at.result Positive c.in_default.not-Positive (kind_is c.at.result l c.at.ensures ∙ e))
 
-pub factor-requires : goal.factor-requires
-factor-requires c = (c.requires.0, c.requires.1.1)
-
 pub returns-in-1 : goal.returns-in-1
 unfolding number_of
 returns-in-1 c = λ n t s l.

@@ -1,7 +1,7 @@
 -- `literal::value` meets its contract: each term is added to those behind it.
 -- Assumes nothing.
 use Rattle.std.proofs.Common.{◌≡◌, ℕ, ◌-◌, subst, arith}
-use lib.Dec.{lit<, lit≤}
+use lib.Dec.{lit≤}
 use lib.ListN.{take, drop}
 use mir.Syntax.{w64}
 use mir.Val.{to_z}
@@ -28,9 +28,6 @@ loop-v-preserved c =
           (value_fits c.args.values.now m c.requires.t) c.plus-x.type_inv c.plus-x.ensures.0 c.loop-v.invariant.0,
       again_result c.plus-x.result c.plus-x.type_inv (omega (arith, c.plus-x.ensures.1)),
     )
-
-pub plus-requires : goal.plus-requires
-plus-requires c = (c.requires.at_in_bounds, lit< tt, lit≤ tt, omega (arith, c.loop-v.invariant.1))
 
 pub returns : goal.returns
 returns c =

@@ -1,17 +1,10 @@
 -- `row::all_within` meets its contract: so far as they were seen, the words lie within the limit.
 -- Assumes nothing.
-use mathlib.Core.Path.{refl}
 use borrow.Author.Rules.{sfits_of}
 use Rattle.literals.proofs.SumLaws.{one_over, one_within, all_seen}
 use mathlib.Core.Bool.{not}
 use mathlib.Core.Path.{ap}
 use Rattle.literals.proofs.row.all_within.Goals as goal
-
-pub loop-i-init : goal.loop-i-init
-loop-i-init c = λ z m. refl
-
-pub word-requires : goal.word-requires
-word-requires c = (c.requires, c.loop-i-test.true)
 
 pub returns-then-not-within : goal.returns-then-not-within
 returns-then-not-within c = λ z m.

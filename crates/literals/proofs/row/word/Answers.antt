@@ -9,20 +9,13 @@ use lib.Signed.{mag}
 use mir.Facts.{to_z-of_z}
 use Rattle.tables.proofs.WordLaws.{words_length}
 use Rattle.literals.proofs.Sizes.{again}
-use Rattle.literals.proofs.SumLaws.{times_tame, plus_tame, put_small, word_times, word_plus}
+use Rattle.literals.proofs.SumLaws.{plus_tame, put_small, word_times, word_plus}
 use mir.Syntax.{w64}
 use mir.Val.{SFits}
 use Rattle.literals.proofs.row.word.Goals as goal
 
 pub overflow_add-at : goal.overflow_add-at
 overflow_add-at c = omega (arith, words_length c.args.b.now, c.requires.0.long)
-
-pub times-requires : goal.times-requires
-times-requires c =
-    let a = c.term-a in (
-      subst⁻¹ (λ (z : ℤ). mag z < 2147483648) (to_z-of_z {w = w64} (sfits_of {z = a.result} a.type_inv)) a.ensures.1,
-      times_tame c.in-Times.is c.requires.0.tame,
-    )
 
 pub plus-requires : goal.plus-requires
 plus-requires c =
